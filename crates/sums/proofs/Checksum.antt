@@ -1,0 +1,85 @@
+-- The checksum facts, once over the length: the field stands at any even place, with any bytes before and behind it.
+-- Cited by whoever writes or reads a checksum. Assumes nothing.
+use mathlib.Core.Path.{_≡_, refl, sym, ap, _∙_}
+use mathlib.Core.List.{List, [], _∷_, _++_}
+use Prim.Native.Nat.{ℕ, zero, suc, _+_, _-_, _*_, _/_, _%_, _≤_, _<_}
+use native.Mathlib.Omega.{arith}
+use lib.ListN.{length, getD}
+use borrow.Author.Tests.{lt-ltb, le-ltb}
+use Rattle.sums.specs.Sum.{plus, sumOf, checksumOf, Bytes, withField}
+use Rattle.sums.specs.Total.{folded}
+use Rattle.sums.proofs.Folding.{folded-zero, folded-most, folded-small, plus-folded}
+
+-- the bytes two by two, summed with all their carries
+pairs : List ℕ → ℕ
+pairs [] = 0
+pairs (a ∷ []) = 256 * a
+pairs (a ∷ (b ∷ rest)) = 256 * a + b + pairs rest
+
+sum-pairs : (s : List ℕ) → Bytes s → sumOf s ≡ folded (pairs s)
+unfolding sumOf pairs
+sum-pairs [] k = sym folded-zero
+sum-pairs (a ∷ []) k = sym (folded-small (256 * a) (omega (arith, k 0)))
+sum-pairs (a ∷ (b ∷ rest)) k =
+    ap (plus (256 * a + b)) (sum-pairs rest (λ i. k (suc (suc i))))
+    ∙ plus-folded (256 * a + b) (pairs rest) (omega (arith, k 0, k 1))
+
+pairs-field : (j : ℕ) (before after : List ℕ) (h l : ℕ) → length before ≡ 2 * j
+    → pairs (before ++ (h ∷ (l ∷ after))) ≡ 256 * h + l + pairs (before ++ (0 ∷ (0 ∷ after)))
+unfolding pairs
+pairs-field zero [] after h l e = omega arith
+pairs-field (suc j) [] after h l e = absurd (omega arith)
+pairs-field zero (a ∷ before) after h l e = absurd (omega arith)
+pairs-field (suc j) (a ∷ []) after h l e = absurd (omega arith)
+pairs-field (suc j) (a ∷ (b ∷ before)) after h l e = omega (arith, pairs-field j before after h l (omega arith))
+
+pub bytes-cons : (a : ℕ) (s : List ℕ) → a < 256 → Bytes s → Bytes (a ∷ s)
+bytes-cons a s h k zero = h
+bytes-cons a s h k (suc i) = k i
+
+pub bytes-append : (s t : List ℕ) → Bytes s → Bytes t → Bytes (s ++ t)
+bytes-append [] t h k = k
+bytes-append (a ∷ s) t h k = bytes-cons a (s ++ t) (h 0) (bytes-append s t (λ i. h (suc i)) k)
+
+bytes-field : (before after : List ℕ) (field : ℕ) → Bytes before → Bytes after → field ≤ 65535 → Bytes (withField before field after)
+bytes-field before after field h k l =
+    bytes-append before (field / 256 ∷ (field % 256 ∷ after)) h
+    (bytes-cons (field / 256) (field % 256 ∷ after) (omega arith) (bytes-cons (field % 256) after (omega arith) k))
+
+plus-complement : (x : ℕ) → x ≤ 65535 → plus (65535 - x) x ≡ 65535
+unfolding plus
+plus-complement x h =
+    let e : 65535 - x + x ≡ 65535 = omega arith in
+    rw e
+
+module _ (j : ℕ) (before after : List ℕ) (even : length before ≡ 2 * j) (h : Bytes before) (k : Bytes after) where
+  -- a field adds its own number to the sum with the field taken as zero
+  pub sum-field : (field : ℕ) → field ≤ 65535
+      → sumOf (withField before field after) ≡ plus field (sumOf (withField before 0 after))
+  sum-field field l =
+      let e : 256 * (field / 256) + field % 256 ≡ field = omega arith in
+      sum-pairs (withField before field after) (bytes-field before after field h k l)
+      ∙ ap folded (pairs-field j before after (field / 256) (field % 256) even ∙ ap (λ (x : ℕ). x + pairs (withField before 0 after)) e)
+      ∙ sym (ap (plus field) (sum-pairs (withField before 0 after) (bytes-field before after 0 h k (omega arith)))
+      ∙ plus-folded field (pairs (withField before 0 after)) l)
+
+  sum-zeroed : sumOf (withField before 0 after) ≤ 65535
+  sum-zeroed =
+      omega (arith, sum-pairs (withField before 0 after) (bytes-field before after 0 h k (omega arith)), folded-most (pairs (withField before 0 after)))
+
+  -- what is written sums to 0xFFFF
+  pub checksum-sums : sumOf (withField before (checksumOf (withField before 0 after)) after) ≡ 0xFFFF
+  checksum-sums =
+      sum-field (checksumOf (withField before 0 after)) (omega arith)
+      ∙ plus-complement (sumOf (withField before 0 after)) sum-zeroed
+
+  -- a field of 0xFFFF where 0x0000 is due passes
+  pub due-zero-passes : checksumOf (withField before 0 after) ≡ 0 → sumOf (withField before 0xFFFF after) ≡ 0xFFFF
+  unfolding plus
+  due-zero-passes e =
+      let z : sumOf (withField before 0 after) ≡ 65535 = omega (arith, sum-zeroed) in
+      sum-field 0xFFFF (omega arith) ∙ ap (plus 0xFFFF) z
+
+  -- where a field of 0x0000 and one of 0xFFFF both pass, 0x0000 is written
+  pub zero-is-written : sumOf (withField before 0 after) ≡ 0xFFFF → checksumOf (withField before 0 after) ≡ 0
+  zero-is-written e = omega arith
