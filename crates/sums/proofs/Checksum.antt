@@ -8,6 +8,7 @@ use lib.ListN.{length, getD}
 use borrow.Author.Tests.{lt-ltb, le-ltb}
 use Rattle.sums.specs.Sum.{plus, sumOf, checksumOf, Bytes, withField}
 use Rattle.sums.specs.Total.{folded}
+use Rattle.sums.proofs.Bytes.{bytes-cons, bytes-append}
 use Rattle.sums.proofs.Folding.{folded-zero, folded-most, folded-small, plus-folded}
 
 -- the bytes two by two, summed with all their carries
@@ -32,14 +33,6 @@ pairs-field (suc j) [] after h l e = absurd (omega arith)
 pairs-field zero (a ∷ before) after h l e = absurd (omega arith)
 pairs-field (suc j) (a ∷ []) after h l e = absurd (omega arith)
 pairs-field (suc j) (a ∷ (b ∷ before)) after h l e = omega (arith, pairs-field j before after h l (omega arith))
-
-pub bytes-cons : (a : ℕ) (s : List ℕ) → a < 256 → Bytes s → Bytes (a ∷ s)
-bytes-cons a s h k zero = h
-bytes-cons a s h k (suc i) = k i
-
-pub bytes-append : (s t : List ℕ) → Bytes s → Bytes t → Bytes (s ++ t)
-bytes-append [] t h k = k
-bytes-append (a ∷ s) t h k = bytes-cons a (s ++ t) (h 0) (bytes-append s t (λ i. h (suc i)) k)
 
 bytes-field : (before after : List ℕ) (field : ℕ) → Bytes before → Bytes after → field ≤ 65535 → Bytes (withField before field after)
 bytes-field before after field h k l =

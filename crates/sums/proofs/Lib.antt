@@ -1,3 +1,4 @@
+pub mod Bytes
 pub mod Folding
 pub mod Laws
 pub mod Checksum

@@ -1,6 +1,6 @@
 // The one's complement sum of bytes where they stand: nothing is copied to be summed.
 ghost use mathlib.Core.Path.{_≡_};
-ghost use Prim.Native.Nat.{_≤_, _%_};
+ghost use Prim.Native.Nat.{_*_, _/_, _%_, _≤_};
 ghost use lib.ListN.{length};
 ghost use Rattle.sums.specs.Sum.{sumOf};
 ghost use Rattle.sums.specs.Total.{numberOf, total, folded};
@@ -15,7 +15,8 @@ pub fn number(a: u8, b: u8, c: u8, d: u8) -> u32
 // The plain sum of the 32-bit numbers that the bytes make four by four, with all carries.
 pub fn plain_total(bytes: &[u8]) -> u64
     requires { ⌜ (length (now bytes) % 4 ≡ 0) × (length (now bytes) ≤ 65536) ⌝ }
-    ensures { λ r. ⌜ r ≡ total (now (bytes .entry)) ⌝ }
+    ensures sum { λ r. ⌜ r ≡ total (now (bytes .entry)) ⌝ }
+    ensures bound { λ r. ⌜ r ≤ 4294967295 * (length (now (bytes .entry)) / 4) ⌝ }
 {
     let numbers = bytes.len() / 4;
     let mut sum: u64 = 0;
@@ -30,7 +31,8 @@ pub fn plain_total(bytes: &[u8]) -> u64
 
 // A plain sum with its carries put back in at the bottom: a one's complement sum, 65535 and never 0 where the plain sum is not 0.
 pub fn fold(plain: u64) -> u32
-    ensures { λ r. ⌜ r ≡ folded plain ⌝ }
+    ensures sum { λ r. ⌜ r ≡ folded plain ⌝ }
+    ensures bound { λ r. ⌜ r ≤ 65535 ⌝ }
 {
     if plain == 0 {
         return 0;

@@ -74,7 +74,7 @@ returns c =
     let k = c .before .loop .k in
     let f : length bytes ≤ 4 * k = omega arith in
     let e : total (drop (4 * k) bytes) ≡ 0 = ap total (drop-of-length-le bytes f) ∙ total-none in
-    omega arith
+    (omega arith, omega arith)
 
 pub plain-total-spec : {M : Type 1} → statement M
 plain-total-spec =

@@ -17,8 +17,8 @@ fold-requires c κs = search needs
 returns : tie.Need-returns
 returns c =
     let bytes = now (c .before .before .before .args .bytes) in
-    c .fold .ensures
-    ∙ ap folded (c .before .plain-total .ensures)
+    c .fold .ensures .0
+    ∙ ap folded (c .before .plain-total .ensures .0)
     ∙ sym (sum-folded bytes (λ i. c .before .before .shared-slice-known .given i .fits))
 
 pub sum-spec : {M : Type 1} → statement M

@@ -1,0 +1,53 @@
+-- The laws of checks in an order: an answer of 0 is given exactly where every check passes, and checks may follow checks.
+-- Assumes nothing.
+use mathlib.Core.Path.{_≡_, refl, sym, ap, _∙_}
+use mathlib.Core.List.{List, [], _∷_, _++_}
+use mathlib.Core.Bool.{Bool, true, false, cond, not, _||_}
+use Prim.Native.Nat.{ℕ, _<_}
+use native.Mathlib.Omega.{arith}
+use lib.Dec.{eqb}
+use borrow.Author.Tests.{eqb-true, not-false}
+use Rattle.wire.specs.Check.{Check, firstRefusal, Passes}
+
+-- every number of a list of checks is above 0
+abbrev pub Numbered : List Check → Type 0
+Numbered [] = Unit
+Numbered (check ∷ rest) = (0 < check .0) × Numbered rest
+
+test-passed : (t : Bool) (k rest : ℕ) → 0 < k → cond t k rest ≡ 0 → (t ≡ false) × (rest ≡ 0)
+test-passed true k rest h e = absurd (omega arith)
+test-passed false k rest h e = (refl, e)
+
+pub passed : (checks : List Check) → Numbered checks → firstRefusal checks ≡ 0 → Passes checks
+passed [] h e = tt
+passed (check ∷ rest) h e =
+    let f = test-passed (check .1) (check .0) (firstRefusal rest) (h .0) e in
+    (f .0, passed rest (h .1) (f .1))
+
+pub all-pass : (checks : List Check) → Passes checks → firstRefusal checks ≡ 0
+all-pass [] h = refl
+all-pass (check ∷ rest) h = ap (λ (t : Bool). cond t (check .0) (firstRefusal rest)) (h .0) ∙ all-pass rest (h .1)
+
+-- checks after checks: the first list decides, or the second where the first passes
+pub refusal-after : (a b : List Check) → Numbered a → firstRefusal a ≡ 0 → firstRefusal (a ++ b) ≡ firstRefusal b
+refusal-after [] b h e = refl
+refusal-after (check ∷ a) b h e =
+    let f = test-passed (check .1) (check .0) (firstRefusal a) (h .0) e in
+    ap (λ (t : Bool). cond t (check .0) (firstRefusal (a ++ b))) (f .0) ∙ refusal-after a b (h .1) (f .1)
+
+test-first : (t : Bool) (k a b : ℕ) → (¬ (a ≡ 0) → b ≡ a) → ¬ (cond t k a ≡ 0) → cond t k b ≡ cond t k a
+test-first true k a b f e = refl
+test-first false k a b f e = f e
+
+pub refusal-before : (a b : List Check) → ¬ (firstRefusal a ≡ 0) → firstRefusal (a ++ b) ≡ firstRefusal a
+refusal-before [] b e = absurd (e refl)
+refusal-before (check ∷ a) b e =
+    test-first (check .1) (check .0) (firstRefusal a) (firstRefusal (a ++ b)) (refusal-before a b) e
+
+-- a check that fails where two numbers differ passes where they are equal
+pub equal-passed : (a b : ℕ) → not (eqb a b) ≡ false → a ≡ b
+equal-passed a b e = eqb-true a b (not-false (eqb a b) e)
+
+pub either-passed : (s t : Bool) → (s || t) ≡ false → (s ≡ false) × (t ≡ false)
+either-passed true t e = absurd (let z : _≡_ {A = ℕ} 0 1 = cc in omega arith)
+either-passed false t e = (refl, e)

@@ -1,0 +1,6 @@
+pub mod Checks
+pub mod Readable
+pub mod Passing
+pub mod Checksums
+pub mod Pasting
+pub mod Writes

@@ -1,0 +1,51 @@
+-- The three ends of writing a frame, for both kinds of frame, and what the passing of the checks says.
+-- Assumes nothing.
+use mathlib.Core.Path.{_≡_, refl, sym, ap, _∙_}
+use mathlib.Core.List.{List}
+use mathlib.Core.Bool.{not, _||_}
+use Prim.Native.Nat.{ℕ, _+_, _%_, _≤_}
+use native.Mathlib.Omega.{arith}
+use lib.Dec.{eqb, ltb}
+use lib.ListN.{length}
+use borrow.Author.Tests.{ltb-false, eq-eqb, ne-eqb}
+use Rattle.wire.specs.declared.room.Written.the-variants.{Frame, Refused, Short}
+use Rattle.wire.specs.Writing.{addressBytesWrong, advertisementChecks, advertisementRefusal, arpChecks, arpRefusal, over, Wrote}
+use Rattle.wire.proofs.Checks.{passed, equal-passed, either-passed}
+
+module _ (refusal need : ℕ) (frame before : List ℕ) where
+  pub ends-short : refusal ≡ 22 → Wrote refusal need frame before (Short need) before
+  ends-short e = record { answer-is = rw e; room-is = rw e }
+
+  pub ends-refused : (number : ℕ) → number ≡ refusal → ¬ (number ≡ 22) → ¬ (number ≡ 0) → Wrote refusal need frame before (Refused number) before
+  ends-refused number e a b =
+      record {
+        answer-is = rw (← e, ne-eqb number 0 b, ne-eqb number 22 a);
+        room-is = rw (← e, ne-eqb number 0 b);
+      }
+
+  pub ends-written : (after : List ℕ) → refusal ≡ 0 → after ≡ over frame before → Wrote refusal need frame before (Frame need) after
+  ends-written after e o = record { answer-is = rw e; room-is = rw (e, o) }
+
+-- what an advertisement that is not refused has
+pub record Writable (addresses : List ℕ) (room : ℕ) : Type 0 where
+  pub fours : length addresses % 4 ≡ 0
+  pub most : length addresses ≤ 64
+  pub holds : 50 + length addresses ≤ room
+
+pub advertisement-passed : (vrid interval : ℕ) (addresses : List ℕ) (room : ℕ)
+    → advertisementRefusal vrid interval addresses room ≡ 0 → Writable addresses room
+unfolding advertisementRefusal addressBytesWrong
+advertisement-passed vrid interval addresses room e =
+    let n = length addresses in
+    let p = passed (advertisementChecks vrid interval addresses room) (omega arith) e .1 .1 in
+    let a = either-passed (not (eqb (n % 4) 0) || eqb n 0) (ltb 64 n) (p .0) in
+    let b = either-passed (not (eqb (n % 4) 0)) (eqb n 0) (a .0) in
+    record {
+      fours = equal-passed (n % 4) 0 (b .0);
+      most = ltb-false 64 n (a .1);
+      holds = ltb-false room (50 + n) (p .1 .0);
+    }
+
+pub arp-passed : (vrid room : ℕ) → arpRefusal vrid room ≡ 0 → 42 ≤ room
+unfolding arpRefusal
+arp-passed vrid room e = ltb-false room 42 (passed (arpChecks vrid room) (omega arith) e .1 .0)

@@ -1,0 +1,163 @@
+// The advertisement frame: Ethernet, IPv4 header and VRRP message.
+use crate::bytes::high;
+use crate::bytes::lowest;
+use crate::bytes::second;
+use crate::bytes::third;
+use crate::bytes::top;
+use crate::room::Written;
+use crate::room::put;
+use sums::fold;
+use sums::number;
+use sums::plain_total;
+ghost use mathlib.Core.Path.{_≡_};
+ghost use Prim.Native.Nat.{_+_, _≤_, _%_};
+ghost use mathlib.Core.List.{_++_};
+ghost use lib.ListN.{length};
+ghost use Rattle.wire.specs.Frame.{messageEnd, messageChecksum, headerChecksum, frameOf};
+ghost use Rattle.wire.specs.Writing.{over, advertisementRefusal, AdvertisementWritten};
+
+// The checksum of the header that we write: all of it is known but the total length and the primary address.
+fn header_checksum(primary: u32, addresses: &[u8]) -> u32
+    requires { ⌜ length (now addresses) ≤ 64 ⌝ }
+    ensures { λ r. ⌜ r ≡ headerChecksum primary (now (addresses .entry)) ⌝ }
+{
+    let fixed: u64 = 0x45000000 + 0x00004000 + 0xFF700000 + 0xE0000012;
+    65535 - fold(fixed + 36 + (addresses.len() as u64) + (primary as u64))
+}
+
+// The checksum of the message: the addresses are summed where they stand.
+fn message_checksum(vrid: u8, priority: u8, interval: u8, addresses: &[u8]) -> u32
+    requires { ⌜ (length (now addresses) % 4 ≡ 0) × (length (now addresses) ≤ 64) ⌝ }
+    ensures { λ r. ⌜ r ≡ messageChecksum vrid priority interval (now (addresses .entry)) ⌝ }
+{
+    let count = (addresses.len() / 4) as u8;
+    let start = number(0x21, vrid, priority, count) as u64;
+    let middle = number(0, interval, 0, 0) as u64;
+    65535 - fold(start + middle + plain_total(addresses))
+}
+
+// The bytes before the addresses: Ethernet, the whole IPv4 header, and the message up to its checksum.
+fn head(vrid: u8, priority: u8, interval: u8, primary: u32, addresses: &[u8]) -> [u8; 42]
+    requires { ⌜ (length (now addresses) % 4 ≡ 0) × (length (now addresses) ≤ 64) ⌝ }
+    ensures whole { λ r. ⌜ r ++ messageEnd (now (addresses .entry)) ≡ frameOf vrid priority interval primary (now (addresses .entry)) ⌝ }
+    ensures long { λ r. ⌜ 42 ≡ length r ⌝ }
+{
+    let total = 36 + addresses.len() as u32;
+    let count = (addresses.len() / 4) as u8;
+    let header = header_checksum(primary, addresses);
+    let message = message_checksum(vrid, priority, interval, addresses);
+    [
+        0x01,
+        0x00,
+        0x5E,
+        0x00,
+        0x00,
+        0x12,
+        0x00,
+        0x00,
+        0x5E,
+        0x00,
+        0x01,
+        vrid,
+        0x08,
+        0x00,
+        0x45,
+        0,
+        high(total),
+        lowest(total),
+        0,
+        0,
+        0x40,
+        0,
+        255,
+        112,
+        high(header),
+        lowest(header),
+        top(primary),
+        second(primary),
+        third(primary),
+        lowest(primary),
+        224,
+        0,
+        0,
+        18,
+        0x21,
+        vrid,
+        priority,
+        count,
+        0,
+        interval,
+        high(message),
+        lowest(message),
+    ]
+}
+
+// Writes the frame at the start of a room that holds it.
+fn put_advertisement(
+    vrid: u8,
+    priority: u8,
+    interval: u8,
+    primary: u32,
+    addresses: &[u8],
+    room: &mut [u8],
+)
+    requires { ⌜ (length (now addresses) % 4 ≡ 0) × (length (now addresses) ≤ 64) ⌝ }
+    requires { ⌜ 50 + length (now addresses) ≤ length (now room) ⌝ }
+    ensures { λ _. ⌜ now (room .exit) ≡ over (frameOf vrid priority interval primary (now (addresses .entry))) (now (room .entry)) ⌝ }
+{
+    let start = head(vrid, priority, interval, primary, addresses);
+    let zeros = [0u8; 8];
+    put(room, 0, &start);
+    put(room, 42, addresses);
+    put(room, 42 + addresses.len(), &zeros)
+}
+
+// The refusal of direct writing: 14, 16, 17, 22 in that order, or 0.
+fn advertisement_refusal(vrid: u8, interval: u8, addresses: &[u8], room: usize) -> u32
+    ensures { λ r. ⌜ r ≡ advertisementRefusal vrid interval (now (addresses .entry)) room ⌝ }
+{
+    let given = addresses.len();
+    if vrid == 0 {
+        return 14;
+    }
+    if interval == 0 {
+        return 16;
+    }
+    if given % 4 != 0 {
+        return 17;
+    }
+    if given == 0 {
+        return 17;
+    }
+    if 64 < given {
+        return 17;
+    }
+    if room < 50 + given {
+        return 22;
+    }
+    0
+}
+
+// Writes the advertisement of a virtual router at the start of `out`; priority 0 is allowed.
+// Refuses 14 (VRID 0), 16 (interval 0), 17 (address bytes) and 22 (room), in that order, and then leaves `out` as it was.
+pub fn write_advertisement(
+    vrid: u8,
+    priority: u8,
+    interval: u8,
+    primary: u32,
+    addresses: &[u8],
+    out: &mut [u8],
+) -> Written
+    ensures { λ r. ⌜ AdvertisementWritten vrid priority interval primary (now (addresses .entry)) (now (out .entry)) r (now (out .exit)) ⌝ }
+{
+    let need = 50 + addresses.len();
+    let refusal = advertisement_refusal(vrid, interval, addresses, out.len());
+    if refusal == 22 {
+        return Written::Short(need);
+    }
+    if refusal != 0 {
+        return Written::Refused(refusal);
+    }
+    put_advertisement(vrid, priority, interval, primary, addresses, out);
+    Written::Frame(need)
+}
