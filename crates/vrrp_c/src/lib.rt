@@ -1,7 +1,8 @@
 // The three calls for C (include/vrrp.h): thin over `wire`, answering 0 or the refusal's number alone.
 use wire::arp::write_arp;
 use wire::frame::write_advertisement;
-use wire::judging::{Judged, judge};
+use wire::judging::Judged;
+use wire::judging::judge;
 use wire::room::Written;
 ghost use mathlib.Core.Path.{_≡_};
 ghost use Rattle.wire.specs.Judging.{refusalOf};

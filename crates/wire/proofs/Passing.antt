@@ -1,19 +1,20 @@
 -- What passing the header's and the message's checks says, and how the two lists of checks decide together.
 -- Assumes nothing.
-use mathlib.Core.Path.{_≡_, refl, _∙_}
+use mathlib.Core.Path.{_≡_, refl, sym, _∙_}
+use mathlib.Core.Bool.{Bool, true, false, cond}
 use mathlib.Core.List.{List}
 use Prim.Native.Nat.{ℕ, _+_, _-_, _≤_}
 use native.Mathlib.Omega.{arith}
-use lib.Dec.{ltb}
+use lib.Dec.{ltb, eqb}
 use lib.ListN.{length, take, drop}
-use borrow.Author.Tests.{ltb-false, eq-eqb, ne-eqb}
+use borrow.Author.Tests.{ltb-false, eqb-true, eq-eqb, ne-eqb}
 use Rattle.wire.specs.Check.{firstRefusal}
 use Rattle.wire.specs.declared.judging.Fields.{Fields}
 use Rattle.wire.specs.declared.judging.Judged.the-variants.{Accepted, Refused}
 use Rattle.wire.specs.Reading.{numberAt}
 use Rattle.wire.specs.Packet.{headerLength, totalLength, headerChecks, payload}
 use Rattle.wire.specs.Message.{messageLength, messageChecks, tooShort}
-use Rattle.wire.specs.Judging.{refusalOf, fieldsIn, fieldsOf, judgedOf}
+use Rattle.wire.specs.Judging.{refusalOf, fieldsIn, fieldsOf, judgedOf, judgedNumber}
 use Rattle.wire.proofs.Checks.{passed, equal-passed, either-passed, refusal-after, refusal-before}
 use Rattle.wire.proofs.Readable.{Readable, readable}
 
@@ -56,3 +57,13 @@ pub fields-read : (packet message : List ℕ) (source list : ℕ) → source ≡
     → list ≡ headerLength packet + 8 → fieldsIn source message list ≡ fieldsOf packet
 unfolding fieldsOf
 fields-read packet message source list s m l = rw (s, m, l)
+
+-- the number of a packet's answer is its refusal
+judged-number-test : (t : Bool) (packet : List ℕ) → eqb (refusalOf packet) 0 ≡ t
+    → judgedNumber (cond t (Accepted (fieldsOf packet)) (Refused (refusalOf packet))) ≡ refusalOf packet
+judged-number-test true packet e = sym (eqb-true (refusalOf packet) 0 e)
+judged-number-test false packet e = refl
+
+pub judged-number : (packet : List ℕ) → judgedNumber (judgedOf packet) ≡ refusalOf packet
+unfolding judgedOf
+judged-number packet = judged-number-test (eqb (refusalOf packet) 0) packet refl

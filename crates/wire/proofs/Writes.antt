@@ -2,14 +2,14 @@
 -- Assumes nothing.
 use mathlib.Core.Path.{_≡_, refl, sym, ap, _∙_}
 use mathlib.Core.List.{List}
-use mathlib.Core.Bool.{not, _||_}
+use mathlib.Core.Bool.{Bool, true, false, cond, not, _||_}
 use Prim.Native.Nat.{ℕ, _+_, _%_, _≤_}
 use native.Mathlib.Omega.{arith}
 use lib.Dec.{eqb, ltb}
 use lib.ListN.{length}
-use borrow.Author.Tests.{ltb-false, eq-eqb, ne-eqb}
+use borrow.Author.Tests.{ltb-false, eqb-true, ne-eqb}
 use Rattle.wire.specs.declared.room.Written.the-variants.{Frame, Refused, Short}
-use Rattle.wire.specs.Writing.{addressBytesWrong, advertisementChecks, advertisementRefusal, arpChecks, arpRefusal, over, Wrote}
+use Rattle.wire.specs.Writing.{addressBytesWrong, advertisementChecks, advertisementRefusal, arpChecks, arpRefusal, answerOf, writtenNumber, over, Wrote}
 use Rattle.wire.proofs.Checks.{passed, equal-passed, either-passed}
 
 module _ (refusal need : ℕ) (frame before : List ℕ) where
@@ -49,3 +49,13 @@ advertisement-passed vrid interval addresses room e =
 pub arp-passed : (vrid room : ℕ) → arpRefusal vrid room ≡ 0 → 42 ≤ room
 unfolding arpRefusal
 arp-passed vrid room e = ltb-false room 42 (passed (arpChecks vrid room) (omega arith) e .1 .0)
+
+-- the number of an answer is the refusal that it was made from
+answer-number-test : (s t : Bool) (refusal need : ℕ) → eqb refusal 0 ≡ s → eqb refusal 22 ≡ t
+    → writtenNumber (cond s (Frame need) (cond t (Short need) (Refused refusal))) ≡ refusal
+answer-number-test true t refusal need a b = sym (eqb-true refusal 0 a)
+answer-number-test false true refusal need a b = sym (eqb-true refusal 22 b)
+answer-number-test false false refusal need a b = refl
+
+pub answer-number : (refusal need : ℕ) → writtenNumber (answerOf refusal need) ≡ refusal
+answer-number refusal need = answer-number-test (eqb refusal 0) (eqb refusal 22) refusal need refl refl
