@@ -1,5 +1,5 @@
--- The checksum facts, once over the length: the field stands at any even place, with any bytes before and behind it.
--- Cited by whoever writes or reads a checksum. Assumes nothing.
+-- A field in two bytes among others, and what it adds to the sum. The facts that follow are in Theorems.antt.
+-- Assumes nothing.
 use mathlib.Core.Path.{_≡_, refl, sym, ap, _∙_}
 use mathlib.Core.List.{List, [], _∷_, _++_}
 use Prim.Native.Nat.{ℕ, zero, suc, _+_, _-_, _*_, _/_, _%_, _≤_, _<_}
@@ -61,18 +61,14 @@ module _ (j : ℕ) (before after : List ℕ) (even : length before ≡ 2 * j) (h
       omega (arith, sum-pairs (withField before 0 after) (bytes-field before after 0 h k (omega arith)), folded-most (pairs (withField before 0 after)))
 
   -- what is written sums to 0xFFFF
-  pub checksum-sums : sumOf (withField before (checksumOf (withField before 0 after)) after) ≡ 0xFFFF
-  checksum-sums =
+  pub field-sums : sumOf (withField before (checksumOf (withField before 0 after)) after) ≡ 0xFFFF
+  field-sums =
       sum-field (checksumOf (withField before 0 after)) (omega arith)
       ∙ plus-complement (sumOf (withField before 0 after)) sum-zeroed
 
   -- a field of 0xFFFF where 0x0000 is due passes
-  pub due-zero-passes : checksumOf (withField before 0 after) ≡ 0 → sumOf (withField before 0xFFFF after) ≡ 0xFFFF
+  pub field-of-ones-sums : checksumOf (withField before 0 after) ≡ 0 → sumOf (withField before 0xFFFF after) ≡ 0xFFFF
   unfolding plus
-  due-zero-passes e =
+  field-of-ones-sums e =
       let z : sumOf (withField before 0 after) ≡ 65535 = omega (arith, sum-zeroed) in
       sum-field 0xFFFF (omega arith) ∙ ap (plus 0xFFFF) z
-
-  -- where a field of 0x0000 and one of 0xFFFF both pass, 0x0000 is written
-  pub zero-is-written : sumOf (withField before 0 after) ≡ 0xFFFF → checksumOf (withField before 0 after) ≡ 0
-  zero-is-written e = omega arith

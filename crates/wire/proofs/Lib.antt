@@ -4,3 +4,5 @@ pub mod Passing
 pub mod Checksums
 pub mod Pasting
 pub mod Writes
+pub mod RoundTrip
+pub mod Theorems

@@ -6,3 +6,4 @@ pub mod Judging
 pub mod Frame
 pub mod Arp
 pub mod Writing
+pub mod Theorems
