@@ -7,18 +7,14 @@ use crate::room::Written;
 use crate::room::put;
 ghost use mathlib.Core.Path.{_≡_};
 ghost use lib.ListN.{length};
-ghost use Rattle.wire.specs.Arp.{arpOf};
+ghost use Rattle.wire.specs.Arp.{arpStart, arpEnd};
 ghost use Rattle.wire.specs.Writing.{arpRefusal, ArpWritten};
 
-// The frame's 42 bytes.
-fn arp_frame(vrid: u8, address: u32) -> [u8; 42]
-    ensures frame { λ r. ⌜ r ≡ arpOf vrid address ⌝ }
-    ensures long { λ r. ⌜ 42 ≡ length r ⌝ }
+// The frame up to its operation: nothing in it but the VRID varies.
+fn arp_head(vrid: u8) -> [u8; 22]
+    ensures bytes { λ r. ⌜ r ≡ arpStart vrid ⌝ }
+    ensures long { λ r. ⌜ 22 ≡ length r ⌝ }
 {
-    let a = top(address);
-    let b = second(address);
-    let c = third(address);
-    let d = lowest(address);
     [
         0xFF,
         0xFF,
@@ -42,6 +38,19 @@ fn arp_frame(vrid: u8, address: u32) -> [u8; 42]
         4,
         0,
         1,
+    ]
+}
+
+// Sender and target.
+fn arp_tail(vrid: u8, address: u32) -> [u8; 20]
+    ensures bytes { λ r. ⌜ r ≡ arpEnd vrid address ⌝ }
+    ensures long { λ r. ⌜ 20 ≡ length r ⌝ }
+{
+    let a = top(address);
+    let b = second(address);
+    let c = third(address);
+    let d = lowest(address);
+    [
         0x00,
         0x00,
         0x5E,
@@ -90,7 +99,9 @@ pub fn write_arp(vrid: u8, address: u32, out: &mut [u8]) -> Written
     if refusal != 0 {
         return Written::Refused(refusal);
     }
-    let frame = arp_frame(vrid, address);
-    put(out, 0, &frame);
+    let head = arp_head(vrid);
+    let tail = arp_tail(vrid, address);
+    put(out, 0, &head);
+    put(out, 22, &tail);
     Written::Frame(42)
 }

@@ -13,7 +13,7 @@ ghost use mathlib.Core.Path.{_≡_};
 ghost use Prim.Native.Nat.{_+_, _≤_, _%_};
 ghost use mathlib.Core.List.{_++_};
 ghost use lib.ListN.{length};
-ghost use Rattle.wire.specs.Frame.{messageEnd, messageChecksum, headerChecksum, frameOf};
+ghost use Rattle.wire.specs.Frame.{messageEnd, messageChecksum, messageOf, headerChecksum, headerOf, ethernetOf, frameOf};
 ghost use Rattle.wire.specs.Writing.{over, advertisementRefusal, AdvertisementWritten};
 
 // The checksum of the header that we write: all of it is known but the total length and the primary address.
@@ -36,16 +36,11 @@ fn message_checksum(vrid: u8, priority: u8, interval: u8, addresses: &[u8]) -> u
     65535 - fold(start + middle + plain_total(addresses))
 }
 
-// The bytes before the addresses: Ethernet, the whole IPv4 header, and the message up to its checksum.
-fn head(vrid: u8, priority: u8, interval: u8, primary: u32, addresses: &[u8]) -> [u8; 42]
-    requires { ⌜ (length (now addresses) % 4 ≡ 0) × (length (now addresses) ≤ 64) ⌝ }
-    ensures whole { λ r. ⌜ r ++ messageEnd (now (addresses .entry)) ≡ frameOf vrid priority interval primary (now (addresses .entry)) ⌝ }
-    ensures long { λ r. ⌜ 42 ≡ length r ⌝ }
+// The 14 Ethernet bytes.
+fn ethernet_head(vrid: u8) -> [u8; 14]
+    ensures bytes { λ r. ⌜ r ≡ ethernetOf vrid ⌝ }
+    ensures long { λ r. ⌜ 14 ≡ length r ⌝ }
 {
-    let total = 36 + addresses.len() as u32;
-    let count = (addresses.len() / 4) as u8;
-    let header = header_checksum(primary, addresses);
-    let message = message_checksum(vrid, priority, interval, addresses);
     [
         0x01,
         0x00,
@@ -61,6 +56,18 @@ fn head(vrid: u8, priority: u8, interval: u8, primary: u32, addresses: &[u8]) ->
         vrid,
         0x08,
         0x00,
+    ]
+}
+
+// The IPv4 header.
+fn ip_header(primary: u32, addresses: &[u8]) -> [u8; 20]
+    requires { ⌜ length (now addresses) ≤ 64 ⌝ }
+    ensures bytes { λ r. ⌜ r ≡ headerOf primary (now (addresses .entry)) ⌝ }
+    ensures long { λ r. ⌜ 20 ≡ length r ⌝ }
+{
+    let total = 36 + addresses.len() as u32;
+    let sum = header_checksum(primary, addresses);
+    [
         0x45,
         0,
         high(total),
@@ -71,8 +78,8 @@ fn head(vrid: u8, priority: u8, interval: u8, primary: u32, addresses: &[u8]) ->
         0,
         255,
         112,
-        high(header),
-        lowest(header),
+        high(sum),
+        lowest(sum),
         top(primary),
         second(primary),
         third(primary),
@@ -81,14 +88,26 @@ fn head(vrid: u8, priority: u8, interval: u8, primary: u32, addresses: &[u8]) ->
         0,
         0,
         18,
+    ]
+}
+
+// The 8 bytes of the message before its addresses.
+fn message_head(vrid: u8, priority: u8, interval: u8, addresses: &[u8]) -> [u8; 8]
+    requires { ⌜ (length (now addresses) % 4 ≡ 0) × (length (now addresses) ≤ 64) ⌝ }
+    ensures bytes { λ r. ⌜ r ++ messageEnd (now (addresses .entry)) ≡ messageOf vrid priority interval (now (addresses .entry)) ⌝ }
+    ensures long { λ r. ⌜ 8 ≡ length r ⌝ }
+{
+    let count = (addresses.len() / 4) as u8;
+    let sum = message_checksum(vrid, priority, interval, addresses);
+    [
         0x21,
         vrid,
         priority,
         count,
         0,
         interval,
-        high(message),
-        lowest(message),
+        high(sum),
+        lowest(sum),
     ]
 }
 
@@ -105,9 +124,13 @@ fn put_advertisement(
     requires { ⌜ 50 + length (now addresses) ≤ length (now room) ⌝ }
     ensures { λ _. ⌜ now (room .exit) ≡ over (frameOf vrid priority interval primary (now (addresses .entry))) (now (room .entry)) ⌝ }
 {
-    let start = head(vrid, priority, interval, primary, addresses);
+    let ethernet = ethernet_head(vrid);
+    let header = ip_header(primary, addresses);
+    let message = message_head(vrid, priority, interval, addresses);
     let zeros = [0u8; 8];
-    put(room, 0, &start);
+    put(room, 0, &ethernet);
+    put(room, 14, &header);
+    put(room, 34, &message);
     put(room, 42, addresses);
     put(room, 42 + addresses.len(), &zeros)
 }

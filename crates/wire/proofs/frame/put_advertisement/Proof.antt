@@ -1,20 +1,26 @@
--- `wire::frame::put_advertisement` meets its contract: the head, the addresses and the zeros stand one behind another.
+-- `wire::frame::put_advertisement` meets its contract: the parts of the frame stand one behind another.
 -- Assumes nothing.
 use mathlib.Core.Path.{_≡_, refl, sym, ap, _∙_}
-use mathlib.Core.List.{List, [], _++_, append-assoc}
+use mathlib.Core.List.{List, [], _++_}
 use Prim.Native.Nat.{ℕ, _+_}
 use native.Mathlib.Omega.{arith}
 use borrow.Author.Needs.{needs}
 use denote.Ref.{now}
 use lib.ListN.{length, replicate, length-append}
-use lib.Seq.{paste}
+use Rattle.wire.specs.Frame.{messageOf, packetOf, frameOf}
 use Rattle.wire.specs.Writing.{over}
-use Rattle.wire.proofs.Pasting.{paste-behind}
+use Rattle.wire.proofs.Pasting.{put-behind, five-parts}
 use Rattle.wire.proofs.frame.put_advertisement.Statement.{statement}
 use Rattle.wire.proofs.frame.put_advertisement.Tie as tie
 
-head-requires : tie.Need-head-requires
-head-requires c κs = search needs
+ethernet-head-requires : tie.Need-ethernet-head-requires
+ethernet-head-requires c κs = search needs
+
+ip-header-requires : tie.Need-ip-header-requires
+ip-header-requires c κs = search needs
+
+message-head-requires : tie.Need-message-head-requires
+message-head-requires c κs = search needs
 
 slice-aggregate-put : tie.Need-slice-aggregate-put
 slice-aggregate-put c = search needs
@@ -22,49 +28,85 @@ slice-aggregate-put c = search needs
 put-requires : tie.Need-put-requires
 put-requires c κs = search needs
 
-put-requires-2 : tie.Need-put-requires-2
-put-requires-2 c κs = search needs
-
-add-put : tie.Need-add-put
-add-put c = search needs
-
 slice-aggregate-put-2 : tie.Need-slice-aggregate-put-2
 slice-aggregate-put-2 c = search needs
 
+put-requires-2 : tie.Need-put-requires-2
+put-requires-2 c κs = search needs
+
+slice-aggregate-put-3 : tie.Need-slice-aggregate-put-3
+slice-aggregate-put-3 c = search needs
+
 put-requires-3 : tie.Need-put-requires-3
 put-requires-3 c κs = search needs
+
+put-requires-4 : tie.Need-put-requires-4
+put-requires-4 c κs = search needs
+
+add-put : tie.Need-add-put
+add-put c =
+    omega (arith, c .before .before .before .before .before .before .before .before .before .before .before .before .before .before .before .before .before .before .before .before .before .before .before .before .before .pre)
+
+slice-aggregate-put-4 : tie.Need-slice-aggregate-put-4
+slice-aggregate-put-4 c = search needs
+
+put-requires-5 : tie.Need-put-requires-5
+put-requires-5 c κs = search needs
 
 same-length : tie.Need-same-length
 same-length c = search needs
 
 returns : tie.Need-returns
+unfolding packetOf frameOf
 returns c =
-    let a = c .before .before .before .before .before .before .before .before .before .before .before .before .before .before .before .before .before .args in
+    let at-put5 = c .before .before in
+    let at-put4 = at-put5 .before .before .before .before .before in
+    let at-put3 = at-put4 .before .before .before .before in
+    let at-put2 = at-put3 .before .before .before .before .before in
+    let at-put = at-put2 .before .before .before .before .before in
+    let at-message = at-put .before .before .before in
+    let at-header = at-message .before in
+    let at-ethernet = at-header .before in
+    let a = at-ethernet .before .before .before .args in
     let room = now (a .room) in
     let addresses = now (a .addresses) in
     let zeros : List ℕ = replicate 8 0 in
-    let start = c .before .before .before .before .before .before .before .before .before .before .before .before .before .before .head .result in
-    let behind = c .before .before .before .before .before .before .before .before .before .before .before .before .before .before .head .ensures .1 in
-    let first = c .before .before .before .before .before .before .before .before .before .before .before .put .ensures ∙ paste-behind [] start room 0 refl in
-    let second =
-    c .before .before .before .before .before .before .before .put2 .ensures
-    ∙ ap (λ (x : List ℕ). paste x 42 addresses (length addresses)) first
-    ∙ paste-behind start addresses room 42 behind in
-    c .before .before .put3 .ensures
-    ∙ ap (λ (x : List ℕ). paste x (42 + length addresses) zeros 8) second
-    ∙ paste-behind (start ++ addresses) zeros room (42 + length addresses) (omega (arith, length-append start addresses))
-    ∙ ap (λ (x : List ℕ). over x room) (append-assoc start addresses zeros ∙ c .before .before .before .before .before .before .before .before .before .before .before .before .before .before .head .ensures .0)
+    let ethernet = at-ethernet .ethernet-head .result in
+    let header = at-header .ip-header .result in
+    let message = at-message .message-head .result in
+    let e = at-ethernet .ethernet-head .ensures in
+    let h = at-header .ip-header .ensures in
+    let m = at-message .message-head .ensures in
+    let two = length-append ethernet header in
+    let three = length-append (ethernet ++ header) message in
+    let four = length-append ((ethernet ++ header) ++ message) addresses in
+    let first = put-behind [] ethernet room room _ 0 refl refl (at-put .put .ensures) in
+    let second = put-behind ethernet header room _ _ 14 first (e .1) (at-put2 .put2 .ensures) in
+    let third = put-behind (ethernet ++ header) message room _ _ 34 second (omega arith) (at-put3 .put3 .ensures) in
+    let fourth = put-behind ((ethernet ++ header) ++ message) addresses room _ _ 42 third (omega arith) (at-put4 .put4 .ensures) in
+    let fifth =
+    put-behind (((ethernet ++ header) ++ message) ++ addresses) zeros room _ _ (42 + length addresses) fourth (omega arith)
+    (at-put5 .put5 .ensures) in
+    fifth
+    ∙ ap (λ (x : List ℕ). over x room) (five-parts ethernet header message addresses zeros)
+    ∙ rw (e .0, h .0, m .0)
 
 pub put-advertisement-spec : {M : Type 1} → statement M
 put-advertisement-spec =
     tie.close
     (tie.spec
-    head-requires
+    ethernet-head-requires
+    ip-header-requires
+    message-head-requires
     slice-aggregate-put
     put-requires
-    put-requires-2
-    add-put
     slice-aggregate-put-2
+    put-requires-2
+    slice-aggregate-put-3
     put-requires-3
+    put-requires-4
+    add-put
+    slice-aggregate-put-4
+    put-requires-5
     same-length
     returns)

@@ -1,10 +1,9 @@
--- `wire::arp::arp_frame` meets its contract: each byte is the frame's.
+-- `wire::arp::arp_tail` meets its contract: each byte is the frame's.
 -- Assumes nothing.
 use mathlib.Core.Path.{refl}
 use borrow.Author.Needs.{needs}
-use Rattle.wire.specs.Arp.{arpOf}
-use Rattle.wire.proofs.arp.arp_frame.Statement.{statement}
-use Rattle.wire.proofs.arp.arp_frame.Tie as tie
+use Rattle.wire.proofs.arp.arp_tail.Statement.{statement}
+use Rattle.wire.proofs.arp.arp_tail.Tie as tie
 
 top-requires : tie.Need-top-requires
 top-requires c κs = search needs
@@ -19,10 +18,11 @@ lowest-requires : tie.Need-lowest-requires
 lowest-requires c κs = search needs
 
 returns : tie.Need-returns
-unfolding arpOf
-returns c =
-    (rw (c .lowest .ensures, c .before .third .ensures, c .before .before .second .ensures, c .before .before .before .top .ensures), refl)
+returns c = (
+  rw (c .lowest .ensures, c .before .third .ensures, c .before .before .second .ensures, c .before .before .before .top .ensures),
+  refl,
+)
 
-pub arp-frame-spec : {M : Type 1} → statement M
-arp-frame-spec =
+pub arp-tail-spec : {M : Type 1} → statement M
+arp-tail-spec =
     tie.close (tie.spec top-requires second-requires third-requires lowest-requires returns)

@@ -1,0 +1,79 @@
+-- `wire::frame::ip_header` meets its contract: each byte is the header's.
+-- Assumes nothing.
+use mathlib.Core.Path.{refl}
+use native.Mathlib.Omega.{arith}
+use borrow.Author.Needs.{needs}
+use Rattle.wire.specs.Frame.{headerChecksum, headerOf}
+use Rattle.wire.proofs.frame.ip_header.Statement.{statement}
+use Rattle.wire.proofs.frame.ip_header.Tie as tie
+
+cast-total : tie.Need-cast-total
+cast-total c = search needs
+
+add-total : tie.Need-add-total
+add-total c = search needs
+
+header-checksum-requires : tie.Need-header-checksum-requires
+header-checksum-requires c κs = search needs
+
+high-requires : tie.Need-high-requires
+high-requires c κs = search needs
+
+lowest-requires : tie.Need-lowest-requires
+lowest-requires c κs = search needs
+
+high-requires-2 : tie.Need-high-requires-2
+unfolding headerChecksum
+high-requires-2 c κs = omega (arith, c .before .before .header-checksum .ensures)
+
+lowest-requires-2 : tie.Need-lowest-requires-2
+lowest-requires-2 c κs = search needs
+
+top-requires : tie.Need-top-requires
+top-requires c κs = search needs
+
+second-requires : tie.Need-second-requires
+second-requires c κs = search needs
+
+third-requires : tie.Need-third-requires
+third-requires c κs = search needs
+
+lowest-requires-3 : tie.Need-lowest-requires-3
+lowest-requires-3 c κs = search needs
+
+returns : tie.Need-returns
+unfolding headerOf
+returns c =
+    let at-top = c .before .before .before in
+    let at-high2 = at-top .before .before in
+    let at-high = at-high2 .before .before in (
+      rw (
+        c .lowest3 .ensures,
+        c .before .third .ensures,
+        c .before .before .second .ensures,
+        at-top .top .ensures,
+        at-top .before .lowest2 .ensures,
+        at-high2 .high2 .ensures,
+        at-high2 .before .lowest .ensures,
+        at-high .high .ensures,
+        at-high .before .header-checksum .ensures,
+      ),
+      refl,
+    )
+
+pub ip-header-spec : {M : Type 1} → statement M
+ip-header-spec =
+    tie.close
+    (tie.spec
+    cast-total
+    add-total
+    header-checksum-requires
+    high-requires
+    lowest-requires
+    high-requires-2
+    lowest-requires-2
+    top-requires
+    second-requires
+    third-requires
+    lowest-requires-3
+    returns)
