@@ -1,0 +1,27 @@
+-- `text::put_byte` meets its contract: one store, or nothing past the end. Assumes nothing.
+use mathlib.Core.Path.{refl}
+use native.Mathlib.Omega.{arith}
+use borrow.Author.Needs.{needs}
+use Rattle.text.specs.Appended.{puts}
+use Rattle.text.proofs.Appending.{appended, appended-past}
+use Rattle.text.proofs.put_byte.Statement.{statement}
+use Rattle.text.proofs.put_byte.Tie as tie
+
+slice-write-out : tie.Need-slice-write-out
+slice-write-out c = search needs
+
+add-result : tie.Need-add-result
+add-result c = search needs
+
+same-length : tie.Need-same-length
+same-length c = search needs
+
+returns : tie.Need-returns
+unfolding puts
+returns c = appended refl (omega arith)
+
+returns-2 : tie.Need-returns-2
+returns-2 c = appended-past _ _ _ (c .if1 .left)
+
+pub put-byte-spec : {M : Type 1} → statement M
+put-byte-spec = tie.close (tie.spec slice-write-out add-result same-length returns returns-2)
