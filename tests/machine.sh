@@ -1,4 +1,4 @@
-# What the C tests and the benchmark need of the machine; sourced by a script that has set root, the repository.
+# What the commands need of the machine; sourced by a script that has set root, the repository.
 # The library is x86-64 code: other machines take a cross compiler, and the emulator that comes with the toolchain.
 
 archive=$root/target/staticlib/libvrrp_c.a
@@ -24,13 +24,13 @@ case $(uname -m) in
 x86_64)
     emulator=
     compiler=gcc
-    need gcc gcc libc6-dev
+    compiler_packages='gcc libc6-dev'
     ;;
 *)
     kit=$(dirname "$(dirname "$(readlink -f "$(command -v rt)")")")
     emulator=$kit/on/$(uname -m)/toolchain/bin/qemu-x86_64
     compiler=x86_64-linux-gnu-gcc
-    need x86_64-linux-gnu-gcc gcc-x86-64-linux-gnu libc6-dev-amd64-cross
+    compiler_packages='gcc-x86-64-linux-gnu libc6-dev-amd64-cross'
     ;;
 esac
 
@@ -43,6 +43,7 @@ library() {
 build() {
     program=$1
     shift
+    need "$compiler" $compiler_packages
     mkdir -p "$out"
     "$compiler" -O2 -Wall -Wextra -Werror -static -I "$root/include" -I "$root/bench" -o "$out/$program" "$@" "$archive"
 }

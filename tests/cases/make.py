@@ -1,5 +1,5 @@
 #!/usr/bin/env python3
-"""Makes the cases of judging and writing: wire.records, their list wire.txt and the lines due, wire.lines.
+"""Makes the cases of judging and writing: what the program wire_cases is run on, what it must print, and their list wire.txt.
 
 Every expectation is typed here by hand from document 01 (or follows from it for a test of the UNH suite); the second
 program must give the same line, else nothing is made. With --check it compares the made files with those there.
@@ -10,6 +10,7 @@ from collections import namedtuple
 from pathlib import Path
 
 HERE = Path(__file__).resolve().parent
+PROGRAM = HERE.parent.parent / "crates" / "wire_cases"  # `rt check` runs it on stdin and compares with stdout
 sys.dont_write_bytecode = True
 sys.path.insert(0, str(HERE.parent))
 
@@ -374,9 +375,9 @@ def made():
     listed = [f"{number} {case.source}: {case.shows} -> {case.note}" for number, case in enumerate(cases, 1)]
     records = b"".join(case.record for case in cases)
     return {
-        HERE / "wire.records": records,
+        PROGRAM / "stdin": records,
+        PROGRAM / "stdout": ("\n".join(second.answer_records(records)) + "\n").encode(),
         HERE / "wire.txt": ("\n".join(listed) + "\n").encode(),
-        HERE / "wire.lines": ("\n".join(second.answer_records(records)) + "\n").encode(),
     }
 
 
