@@ -26,7 +26,7 @@ def main(command):
     told = 0
     for packet in packets():
         printed = subprocess.run(command, input=packet, capture_output=True, check=True).stdout.decode()
-        due = second.verdict_text(packet)
+        due = "".join(line + "\n" for line in second.verdict_text(packet))
         if printed != due:
             sys.exit(f"judge_texts: for {packet.hex()}\n{printed}is printed, and due is\n{due}")
         told += 1
