@@ -1,0 +1,4 @@
+pub mod Timers
+pub mod Step
+pub mod Clock
+pub mod Accept
