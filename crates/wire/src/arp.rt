@@ -6,9 +6,10 @@ use crate::bytes::top;
 use crate::room::Written;
 use crate::room::put;
 ghost use mathlib.Core.Path.{_≡_};
+ghost use Prim.Native.Nat.{_≤_};
 ghost use lib.ListN.{length};
-ghost use Rattle.wire.specs.Arp.{arpStart, arpEnd};
-ghost use Rattle.wire.specs.Writing.{arpRefusal, ArpWritten};
+ghost use Rattle.wire.specs.Arp.{arpStart, arpEnd, arpOf};
+ghost use Rattle.wire.specs.Writing.{over, arpRefusal, ArpWritten};
 
 // The frame up to its operation: nothing in it but the VRID varies.
 fn arp_head(vrid: u8) -> [u8; 22]
@@ -74,6 +75,17 @@ fn arp_tail(vrid: u8, address: u32) -> [u8; 20]
     ]
 }
 
+// Writes the frame at the start of a room that holds it.
+pub fn put_arp(vrid: u8, address: u32, room: &mut [u8])
+    requires { ⌜ 42 ≤ length (now room) ⌝ }
+    ensures { λ _. ⌜ now (room .exit) ≡ over (arpOf vrid address) (now (room .entry)) ⌝ }
+{
+    let head = arp_head(vrid);
+    let tail = arp_tail(vrid, address);
+    put(room, 0, &head);
+    put(room, 22, &tail)
+}
+
 // The refusal of writing one ARP frame: 14, 22 in that order, or 0.
 fn arp_refusal(vrid: u8, room: usize) -> u32
     ensures { λ r. ⌜ r ≡ arpRefusal vrid room ⌝ }
@@ -99,9 +111,6 @@ pub fn write_arp(vrid: u8, address: u32, out: &mut [u8]) -> Written
     if refusal != 0 {
         return Written::Refused(refusal);
     }
-    let head = arp_head(vrid);
-    let tail = arp_tail(vrid, address);
-    put(out, 0, &head);
-    put(out, 22, &tail);
+    put_arp(vrid, address, out);
     Written::Frame(42)
 }

@@ -112,7 +112,7 @@ fn message_head(vrid: u8, priority: u8, interval: u8, addresses: &[u8]) -> [u8; 
 }
 
 // Writes the frame at the start of a room that holds it.
-fn put_advertisement(
+pub fn put_advertisement(
     vrid: u8,
     priority: u8,
     interval: u8,
