@@ -33,7 +33,7 @@ pub struct Outcome {
     pub writes: Writes,
 }
 
-fn state_number(state: State) -> u32
+pub fn state_number(state: State) -> u32
     ensures number { λ r. ⌜ r ≡ stateNumber state ⌝ }
     ensures bound { λ r. ⌜ r ≤ 2 ⌝ }
 {

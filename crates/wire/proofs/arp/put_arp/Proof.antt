@@ -46,7 +46,7 @@ returns c =
     let first = put-behind [] head room room _ 0 refl refl (at-put .put .ensures) in
     let both = put-behind head tail room _ _ 22 first (at-head .arp-head .ensures .1) (at-put2 .put2 .ensures) in
     let bytes : head ++ tail ≡ arpOf (a .vrid) (a .address) =
-        rw (at-head .arp-head .ensures .0, at-tail .arp-tail .ensures .0) in
+    rw (at-head .arp-head .ensures .0, at-tail .arp-tail .ensures .0) in
     both ∙ ap (λ (x : List ℕ). over x room) bytes
 
 pub put-arp-spec : {M : Type 1} → statement M

@@ -1,0 +1,88 @@
+-- What is stored at a place is read back there, and every other place keeps its record.
+-- Assumes nothing.
+use mathlib.Core.Path.{_≡_, refl, sym, ap, _∙_}
+use mathlib.Core.Logic.{⊎-elim}
+use mathlib.Core.List.{List, [], _∷_}
+use mathlib.Core.Bool.{Bool, true, false, cond}
+use Prim.Native.Nat.{ℕ, _+_, _*_, _%_, _^_, _≤_, _<_}
+use native.Mathlib.Nat.{mod-eq-of-lt, mod-lt, eq-or-lt-of-le}
+use native.Mathlib.Omega.{arith}
+use lib.ListN.{length, getD, take, drop}
+use lib.Seq.{paste, length-paste}
+use lib.Dec.{eqb, ltb}
+use borrow.Author.Tests.{ltb-true, ltb-false}
+use Rattle.router.specs.declared.record.State.{State}
+use Rattle.router.specs.declared.record.State.the-variants.{Initialize, Backup, Master}
+use Rattle.router.specs.declared.record.Router.{Router}
+use Rattle.router.specs.Step.{stateNumber}
+use Rattle.places.specs.Layout.{flagOf, stateOf, decodeOf, encodeOf}
+use Rattle.places.specs.Place.{baseOf, recordAt, setRecord}
+use Rattle.places.proofs.Parts.{part-same, part-before, part-behind}
+
+-- a record whose bytes are bytes, with at most 16 addresses
+pub record InRange (r : Router) : Type 0 where
+  pub vrid : r .vrid < 256
+  pub priority : r .priority < 256
+  pub interval : r .interval < 256
+  pub count : r .count < 17
+
+flag-back : (b : Bool) → eqb (flagOf b) 1 ≡ b
+flag-back true = refl
+flag-back false = refl
+
+state-back : (s : State) → stateOf (stateNumber s) ≡ s
+state-back Initialize = refl
+state-back Backup = refl
+state-back Master = refl
+
+decode-encode : (r : Router) → InRange r → decodeOf (encodeOf r) ≡ r
+unfolding decodeOf encodeOf
+decode-encode r h =
+    λ z.
+    record {
+      vrid = mod-eq-of-lt (h .vrid) z;
+      priority = mod-eq-of-lt (h .priority) z;
+      interval = mod-eq-of-lt (h .interval) z;
+      preempt = flag-back (r .preempt) z;
+      state = state-back (r .state) z;
+      timer = r .timer;
+      count = mod-eq-of-lt (h .count) z;
+      counts = r .counts;
+    }
+
+encode-length : (r : Router) → length (encodeOf r) ≡ 16
+unfolding encodeOf
+encode-length r = refl
+
+module _ (words : List ℕ) (place : ℕ) (r : Router) (below : place < 255) (long : length words ≡ 4096) where
+  pub record-same : InRange r → recordAt (setRecord words place r) place ≡ r
+  unfolding recordAt setRecord
+  record-same h =
+      ap decodeOf (part-same words (encodeOf r) (baseOf place) 16 (omega arith) (encode-length r)) ∙ decode-encode r h
+
+  other-part : (t : Bool) (q : ℕ) → ltb q place ≡ t → (q ≡ place → ⊥)
+      → take 16 (drop (baseOf q) (paste words (baseOf place) (encodeOf r) 16)) ≡ take 16 (drop (baseOf q) words)
+  other-part true q e n =
+      part-before words (encodeOf r) (baseOf place) 16 (baseOf q) 16 (omega arith) (encode-length r) (omega (arith, ltb-true q place e))
+  other-part false q e n =
+      let z : place < q = ⊎-elim (λ y. absurd (n (sym y))) (λ y. y) (eq-or-lt-of-le (ltb-false q place e)) in
+      part-behind words (encodeOf r) (baseOf place) 16 (baseOf q) 16 (omega arith) (encode-length r) (omega arith)
+
+  pub record-other : (q : ℕ) → (q ≡ place → ⊥) → recordAt (setRecord words place r) q ≡ recordAt words q
+  unfolding recordAt setRecord
+  record-other q n = ap decodeOf (other-part (ltb q place) q refl n)
+
+  pub store-length : length (setRecord words place r) ≡ 4096
+  unfolding setRecord
+  store-length = length-paste words (baseOf place) (encodeOf r) 16 (omega arith) (omega (arith, encode-length r)) ∙ long
+
+-- whatever the words, a record that is read is in range
+pub read-in-range : (words : List ℕ) (place : ℕ) → InRange (recordAt words place)
+unfolding recordAt decodeOf
+read-in-range words place =
+    record {
+      vrid = mod-lt _ (omega arith);
+      priority = mod-lt _ (omega arith);
+      interval = mod-lt _ (omega arith);
+      count = mod-lt _ (omega arith);
+    }
