@@ -1,6 +1,7 @@
 pub mod Checks
 pub mod Readable
 pub mod Passing
+pub mod Accepted
 pub mod Checksums
 pub mod Pasting
 pub mod Writes

@@ -1,0 +1,5 @@
+pub mod Lists
+pub mod Result
+pub mod Configuring
+pub mod Events
+pub mod Packets

@@ -1,0 +1,17 @@
+// How a call ends.
+use router::record::Router;
+
+pub enum Answered {
+    // done: so many bytes stand at the start of the room, and so many ticks are left over
+    Done(usize, u32),
+    // refused by this number
+    Refused(u32),
+    // refused by 22: this much room is needed
+    Short(usize),
+}
+
+// What a question is told.
+pub enum Told {
+    Of(Router),
+    Refused(u32),
+}

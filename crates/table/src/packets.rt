@@ -1,0 +1,83 @@
+// A packet that the host hands over.
+use crate::acting::{act, seek};
+use crate::answer::Answered;
+use crate::lists::lists_match;
+use places::interface::{count_refusal, primary};
+use places::place::{Found, load, store};
+use router::accept::{count_accepted, router_refusal};
+use router::step::{Event, step};
+use wire::judging::{Fields, Judged, judge};
+ghost use mathlib.Core.Path.{_≡_};
+ghost use Prim.Native.Nat.{_+_, _*_, _≤_, _<_};
+ghost use lib.ListN.{length};
+ghost use Rattle.places.specs.Place.{recordAt};
+ghost use Rattle.table.specs.Lists.{listAt, theirList, listsMatch};
+ghost use Rattle.table.specs.Result.{Leaves, routerPlace};
+ghost use Rattle.table.specs.Packets.{heardAt, soughtAt, heardOf};
+
+// Whether a packet lists the addresses of a place.
+fn same_list(lists: &[u8], place: usize, count: u8, packet: &[u8], fields: Fields) -> bool
+    requires { ⌜ (place < 255) × (count ≤ 16) × (length (now lists) ≡ 16320) ⌝ }
+    requires { ⌜ fields .list + 4 * fields .count ≤ length (now packet) ⌝ }
+    ensures { λ r. ⌜ r ≡ listsMatch (listAt (now (lists .entry)) place count) (theirList (now (packet .entry)) fields) ⌝ }
+{
+    let start = 64 * place;
+    let end = start + 4 * (count as usize);
+    let from = fields.list;
+    let to = from + 4 * (fields.count as usize);
+    lists_match(&lists[start..end], &packet[from..to])
+}
+
+// The router at a place hears a packet that passed refusals 1 to 9.
+fn hear_at(
+    words: &mut [u32],
+    lists: &[u8],
+    place: usize,
+    packet: &[u8],
+    fields: Fields,
+    out: &mut [u8],
+) -> Answered
+    requires { ⌜ (place < 255) × (length (now words) ≡ 4096) × (length (now lists) ≡ 16320) ⌝ }
+    requires { ⌜ fields .list + 4 * fields .count ≤ length (now packet) ⌝ }
+    ensures { λ r. ⌜ Leaves (heardAt (now (words .entry)) (now (lists .entry)) place (now (packet .entry)) fields (now (out .entry))) r (now (words .exit)) (now (out .exit)) ⌝ }
+{
+    let heard = load(words, place);
+    let same = same_list(lists, place, heard.count, packet, fields);
+    let refusal = router_refusal(heard, fields, same);
+    if refusal != 0 {
+        store(words, place, router::accept::count_refusal(heard, refusal));
+        return Answered::Refused(refusal);
+    }
+    let event = Event::Packet(fields.priority, fields.source);
+    let outcome = step(count_accepted(heard), primary(words), event);
+    act(words, lists, place, outcome, 0, out)
+}
+
+// The router that a judged packet is for hears it; where there is none, that is counted.
+fn hear_judged(words: &mut [u32], lists: &[u8], packet: &[u8], fields: Fields, out: &mut [u8]) -> Answered
+    requires { ⌜ (length (now words) ≡ 4096) × (length (now lists) ≡ 16320) ⌝ }
+    requires { ⌜ fields .list + 4 * fields .count ≤ length (now packet) ⌝ }
+    ensures { λ r. ⌜ Leaves (soughtAt (routerPlace (now (words .entry)) (fields .vrid)) (now (words .entry)) (now (lists .entry)) (now (packet .entry)) fields (now (out .entry))) r (now (words .exit)) (now (out .exit)) ⌝ }
+{
+    match seek(words, fields.vrid) {
+        Found::At(place) => hear_at(words, lists, place, packet, fields, out),
+        Found::Nothing => {
+            count_refusal(words, 9);
+            Answered::Refused(9)
+        }
+    }
+}
+
+// A packet of any bytes.
+pub fn hear(words: &mut [u32], lists: &[u8], packet: &[u8], out: &mut [u8]) -> Answered
+    requires { ⌜ (length (now words) ≡ 4096) × (length (now lists) ≡ 16320) ⌝ }
+    ensures { λ r. ⌜ Leaves (heardOf (now (words .entry)) (now (lists .entry)) (now (packet .entry)) (now (out .entry))) r (now (words .exit)) (now (out .exit)) ⌝ }
+{
+    match judge(packet) {
+        Judged::Accepted(fields) => hear_judged(words, lists, packet, fields, out),
+        Judged::Refused(number) => {
+            count_refusal(words, number as usize);
+            Answered::Refused(number)
+        }
+    }
+}
