@@ -86,7 +86,7 @@ pub record Configured (words lists : List ℕ) (vrid priority interval : ℕ) (p
 abbrev pub removeChecks : List ℕ → ℕ → List Check
 removeChecks words vrid =
     (20, not (isFound (routerPlace words vrid)))
-    ∷ ((21, not (eqb (stateNumber (recordAt words (placeIn (routerPlace words vrid)) .state) 0)) ∷ [])
+    ∷ ((21, not (eqb (stateNumber (recordAt words (placeIn (routerPlace words vrid)) .state)) 0)) ∷ [])
 
 unfoldable pub removeRefusal : List ℕ → ℕ → ℕ
 removeRefusal words vrid = firstRefusal (removeChecks words vrid)

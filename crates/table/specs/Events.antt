@@ -1,13 +1,15 @@
 -- Startup, shutdown, clock and questions on the router of a VRID (01, 'Time', 'State by event').
 use Prim.Native.Nat.{ℕ}
 use mathlib.Core.List.{List}
+use mathlib.Core.Bool.{cond, _||_}
+use lib.Dec.{eqb, ltb}
 use Rattle.router.specs.declared.record.Router.{Router}
 use Rattle.router.specs.declared.step.Event.{Event}
 use Rattle.router.specs.Step.{stepOf}
 use Rattle.router.specs.Clock.{tickedOf}
 use Rattle.places.specs.declared.place.Found.{Found}
 use Rattle.places.specs.declared.place.Found.the-variants.{At, Nothing}
-use Rattle.places.specs.Place.{primaryOf, recordAt}
+use Rattle.places.specs.Place.{primaryOf, recordAt, refusalCount}
 use Rattle.table.specs.declared.answer.Told.{Told}
 use Rattle.table.specs.declared.answer.Told.the-variants.{Of, Refused}
 use Rattle.table.specs.Result.{Result, refuses, routerPlace, actedOf}
@@ -41,3 +43,7 @@ toldAt (At place) words = Of (recordAt words place)
 
 unfoldable pub toldOf : List ℕ → ℕ → Told
 toldOf words vrid = toldAt (routerPlace words vrid) words
+
+-- "Per interface: 1 to 9": how often a refusal was given, 0 for a number that is not counted there
+unfoldable pub interfaceCount : List ℕ → ℕ → ℕ
+interfaceCount words number = cond (eqb number 0 || ltb 9 number) 0 (refusalCount words number)

@@ -9,6 +9,7 @@ use Rattle.wire.specs.declared.judging.Judged.the-variants.{Accepted, Refused}
 use Rattle.wire.specs.Judging.{judgedOf}
 use Rattle.router.specs.declared.record.Router.{Router}
 use Rattle.router.specs.declared.step.Event.the-variants.{Packet}
+use Rattle.router.specs.declared.step.Outcome.{Outcome}
 use Rattle.router.specs.Step.{stepOf}
 use Rattle.router.specs.Accept.{routerRefusal, refusedOf, acceptedOf}
 use Rattle.places.specs.declared.place.Found.{Found}
@@ -23,14 +24,16 @@ refusalAt words lists place packet fields =
     routerRefusal (recordAt words place) fields
     (listsMatch (listAt lists place (recordAt words place .count)) (theirList packet fields))
 
--- "10 to 13 [add one] to that router's count"; else the packet is accepted, "any state", unless the room is too small
+-- what an accepted packet comes to for the router at a place: it counts, "any state", and the router hears it
+abbrev pub acceptedAt : List ℕ → ℕ → Fields → Outcome
+acceptedAt words place fields =
+    stepOf (primaryOf words) (acceptedOf (recordAt words place)) (Packet (fields .priority) (fields .source))
+
+-- "10 to 13 [add one] to that router's count"; else the packet is accepted, unless the room is too small
 abbrev pub heardAt : List ℕ → List ℕ → ℕ → List ℕ → Fields → List ℕ → Result
 heardAt words lists place packet fields room =
     cond (eqb (refusalAt words lists place packet fields) 0)
-    (actedOf words lists place
-    (stepOf (primaryOf words) (acceptedOf (recordAt words place)) (Packet (fields .priority) (fields .source)))
-    0
-    room)
+    (actedOf words lists place (acceptedAt words place fields) 0 room)
     (refuses (refusalAt words lists place packet fields)
     (setRecord words place (refusedOf (recordAt words place) (refusalAt words lists place packet fields)))
     room)

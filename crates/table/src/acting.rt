@@ -1,8 +1,11 @@
 // An event's outcome at a place.
 use crate::answer::Answered;
-use output::{need, put_output};
+use output::need;
+use output::put_output;
 use places::interface::primary;
-use places::place::{Found, find, store};
+use places::place::Found;
+use places::place::find;
+use places::place::store;
 use router::step::Outcome;
 ghost use mathlib.Core.Path.{_≡_};
 ghost use Prim.Native.Nat.{_≤_, _<_};

@@ -5,4 +5,4 @@ pub mod acting; // an event's outcome at a place
 pub mod events; // startup, shutdown, clock, questions
 pub mod packets; // a packet that the host hands over
 pub mod configuring; // an empty table, configuring, removing
-pub mod calls; // the calls themselves, for all input
+pub mod calls; // the calls themselves

@@ -1,19 +1,29 @@
 // A packet that the host hands over.
-use crate::acting::{act, seek};
+use crate::acting::act;
+use crate::acting::seek;
 use crate::answer::Answered;
 use crate::lists::lists_match;
-use places::interface::{count_refusal, primary};
-use places::place::{Found, load, store};
-use router::accept::{count_accepted, router_refusal};
-use router::step::{Event, step};
-use wire::judging::{Fields, Judged, judge};
+use places::interface::count_refusal;
+use places::interface::primary;
+use places::place::Found;
+use places::place::load;
+use places::place::store;
+use router::accept::count_accepted;
+use router::accept::router_refusal;
+use router::step::Event;
+use router::step::Outcome;
+use router::step::step;
+use wire::judging::Fields;
+use wire::judging::Judged;
+use wire::judging::judge;
 ghost use mathlib.Core.Path.{_≡_};
 ghost use Prim.Native.Nat.{_+_, _*_, _≤_, _<_};
 ghost use lib.ListN.{length};
-ghost use Rattle.places.specs.Place.{recordAt};
+ghost use Rattle.router.specs.Accept.{refusedOf};
+ghost use Rattle.places.specs.Place.{recordAt, setRecord};
 ghost use Rattle.table.specs.Lists.{listAt, theirList, listsMatch};
 ghost use Rattle.table.specs.Result.{Leaves, routerPlace};
-ghost use Rattle.table.specs.Packets.{heardAt, soughtAt, heardOf};
+ghost use Rattle.table.specs.Packets.{refusalAt, acceptedAt, heardAt, soughtAt, heardOf};
 
 // Whether a packet lists the addresses of a place.
 fn same_list(lists: &[u8], place: usize, count: u8, packet: &[u8], fields: Fields) -> bool
@@ -26,6 +36,35 @@ fn same_list(lists: &[u8], place: usize, count: u8, packet: &[u8], fields: Field
     let from = fields.list;
     let to = from + 4 * (fields.count as usize);
     lists_match(&lists[start..end], &packet[from..to])
+}
+
+// The first of refusals 10 to 13 that the router at a place gives a packet, or 0.
+fn refusal_at(words: &[u32], lists: &[u8], place: usize, packet: &[u8], fields: Fields) -> u32
+    requires { ⌜ (place < 255) × (length (now words) ≡ 4096) × (length (now lists) ≡ 16320) ⌝ }
+    requires { ⌜ fields .list + 4 * fields .count ≤ length (now packet) ⌝ }
+    ensures { λ n. ⌜ n ≡ refusalAt (now (words .entry)) (now (lists .entry)) place (now (packet .entry)) fields ⌝ }
+{
+    let heard = load(words, place);
+    let same = same_list(lists, place, heard.count, packet, fields);
+    router_refusal(heard, fields, same)
+}
+
+// Counts a refusal of 10 to 13 for the router at a place.
+fn refuse_at(words: &mut [u32], place: usize, number: u32)
+    requires { ⌜ (place < 255) × (length (now words) ≡ 4096) ⌝ }
+    ensures { λ _. ⌜ now (words .exit) ≡ setRecord (now (words .entry)) place (refusedOf (recordAt (now (words .entry)) place) number) ⌝ }
+{
+    let counted = router::accept::count_refusal(load(words, place), number);
+    store(words, place, counted)
+}
+
+// What an accepted packet comes to for the router at a place.
+fn accepted_at(words: &[u32], place: usize, fields: Fields) -> Outcome
+    requires { ⌜ (place < 255) × (length (now words) ≡ 4096) ⌝ }
+    ensures { λ o. ⌜ o ≡ acceptedAt (now (words .entry)) place fields ⌝ }
+{
+    let event = Event::Packet(fields.priority, fields.source);
+    step(count_accepted(load(words, place)), primary(words), event)
 }
 
 // The router at a place hears a packet that passed refusals 1 to 9.
@@ -41,20 +80,23 @@ fn hear_at(
     requires { ⌜ fields .list + 4 * fields .count ≤ length (now packet) ⌝ }
     ensures { λ r. ⌜ Leaves (heardAt (now (words .entry)) (now (lists .entry)) place (now (packet .entry)) fields (now (out .entry))) r (now (words .exit)) (now (out .exit)) ⌝ }
 {
-    let heard = load(words, place);
-    let same = same_list(lists, place, heard.count, packet, fields);
-    let refusal = router_refusal(heard, fields, same);
+    let refusal = refusal_at(words, lists, place, packet, fields);
     if refusal != 0 {
-        store(words, place, router::accept::count_refusal(heard, refusal));
+        refuse_at(words, place, refusal);
         return Answered::Refused(refusal);
     }
-    let event = Event::Packet(fields.priority, fields.source);
-    let outcome = step(count_accepted(heard), primary(words), event);
+    let outcome = accepted_at(words, place, fields);
     act(words, lists, place, outcome, 0, out)
 }
 
 // The router that a judged packet is for hears it; where there is none, that is counted.
-fn hear_judged(words: &mut [u32], lists: &[u8], packet: &[u8], fields: Fields, out: &mut [u8]) -> Answered
+fn hear_judged(
+    words: &mut [u32],
+    lists: &[u8],
+    packet: &[u8],
+    fields: Fields,
+    out: &mut [u8],
+) -> Answered
     requires { ⌜ (length (now words) ≡ 4096) × (length (now lists) ≡ 16320) ⌝ }
     requires { ⌜ fields .list + 4 * fields .count ≤ length (now packet) ⌝ }
     ensures { λ r. ⌜ Leaves (soughtAt (routerPlace (now (words .entry)) (fields .vrid)) (now (words .entry)) (now (lists .entry)) (now (packet .entry)) fields (now (out .entry))) r (now (words .exit)) (now (out .exit)) ⌝ }

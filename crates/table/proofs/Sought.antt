@@ -1,0 +1,80 @@
+-- A virtual router that was looked for, and what a call then comes to.
+-- Assumes nothing.
+use mathlib.Core.Path.{_≡_, refl, sym, ap, subst, _∙_}
+use mathlib.Core.List.{List}
+use mathlib.Core.Bool.{Bool, true, false, cond}
+use Prim.Native.Nat.{ℕ, _≤_, _<_}
+use native.Mathlib.Omega.{arith}
+use lib.Dec.{eqb}
+use lib.ListN.{length}
+use Rattle.router.specs.declared.record.Router.{Router}
+use Rattle.router.specs.declared.step.Event.{Event}
+use Rattle.router.specs.declared.step.Outcome.{Outcome}
+use Rattle.router.specs.declared.clock.Ticked.{Ticked}
+use Rattle.router.specs.Step.{stepOf}
+use Rattle.router.specs.Clock.{tickedOf}
+use Rattle.router.proofs.Kept.{step-keeps, ticked-keeps}
+use Rattle.places.specs.declared.place.Found.{Found}
+use Rattle.places.specs.declared.place.Found.the-variants.{At, Nothing}
+use Rattle.places.specs.Place.{primaryOf, recordAt, placeOf}
+use Rattle.places.proofs.Finding.{found}
+use Rattle.places.proofs.Records.{read-in-range}
+use Rattle.table.specs.declared.answer.Answered.{Answered}
+use Rattle.table.specs.declared.answer.Answered.the-variants.{Refused}
+use Rattle.table.specs.declared.answer.Told.{Told}
+use Rattle.table.specs.declared.answer.Told.the-variants.{Of}
+use Rattle.table.specs.Result.{Result, Leaves, refuses, routerPlace, actedOf}
+use Rattle.table.specs.Events.{happenedAt, happenedOf, clockedAt, clockedOf, toldAt, toldOf}
+
+sought-test : (t : Bool) (words : List ℕ) (v p : ℕ) → cond t Nothing (placeOf words v) ≡ At p → placeOf words v ≡ At p
+sought-test true words v p e = absurd (let z : _≡_ {A = ℕ} 0 1 = cc in omega arith)
+sought-test false words v p e = e
+
+-- a virtual router's place is one of the 255
+pub sought-below : (words : List ℕ) (v p : ℕ) → routerPlace words v ≡ At p → p < 255
+unfolding routerPlace
+sought-below words v p e = found words v p (sought-test (eqb v 0) words v p e) .below
+
+-- whatever the memory, an event's outcome has at most 16 addresses
+pub step-most : (words : List ℕ) (p : ℕ) (e : Event) (o : Outcome) → o ≡ stepOf (primaryOf words) (recordAt words p) e
+    → o .router .count ≤ 16
+step-most words p e o h =
+    let k = step-keeps (primaryOf words) (recordAt words p) e .count in
+    let c : o .router .count ≡ stepOf (primaryOf words) (recordAt words p) e .router .count = ap (λ (x : Outcome). x .router .count) h in
+    omega (arith, read-in-range words p .count)
+
+pub ticked-most : (words : List ℕ) (p d : ℕ) (t : Ticked) → t ≡ tickedOf (primaryOf words) (recordAt words p) d
+    → t .outcome .router .count ≤ 16
+ticked-most words p d t h =
+    let k = ticked-keeps (primaryOf words) (recordAt words p) d .count in
+    let c : t .outcome .router .count ≡ tickedOf (primaryOf words) (recordAt words p) d .outcome .router .count = ap (λ (x : Ticked). x .outcome .router .count) h in
+    omega (arith, read-in-range words p .count)
+
+-- a promise of one result is one of an equal result
+pub leaves-equal : (a b : Result) (answer : Answered) (words room : List ℕ) → a ≡ b → Leaves a answer words room → Leaves b answer words room
+leaves-equal a b answer words room e h = subst (λ (x : Result). Leaves x answer words room) e h
+
+-- a refusal that leaves everything as it was
+pub leaves-refused : (number : ℕ) (words room : List ℕ) → Leaves (refuses number words room) (Refused number) words room
+leaves-refused number words room = record { answer-is = refl; words-are = refl; room-is = refl }
+
+pub happened : (words lists : List ℕ) (v p : ℕ) (e : Event) (o : Outcome) (room : List ℕ) → routerPlace words v ≡ At p
+    → o ≡ stepOf (primaryOf words) (recordAt words p) e → actedOf words lists p o 0 room ≡ happenedOf words lists v e room
+unfolding happenedOf
+happened words lists v p e o room s h = rw (s, h)
+
+pub not-happened : (words lists : List ℕ) (v : ℕ) (e : Event) (room : List ℕ) → routerPlace words v ≡ Nothing
+    → refuses 20 words room ≡ happenedOf words lists v e room
+unfolding happenedOf
+not-happened words lists v e room s = rw s
+
+pub clocked : (words lists : List ℕ) (v p d : ℕ) (t : Ticked) (room : List ℕ) → routerPlace words v ≡ At p
+    → t ≡ tickedOf (primaryOf words) (recordAt words p) d
+    → actedOf words lists p (t .outcome) (t .leftover) room ≡ clockedOf words lists v d room
+unfolding clockedOf
+clocked words lists v p d t room s h = rw (s, h)
+
+pub not-clocked : (words lists : List ℕ) (v d : ℕ) (room : List ℕ) → routerPlace words v ≡ Nothing
+    → refuses 20 words room ≡ clockedOf words lists v d room
+unfolding clockedOf
+not-clocked words lists v d room s = rw s
