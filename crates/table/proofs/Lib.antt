@@ -5,3 +5,4 @@ pub mod Sought
 pub mod Cleared
 pub mod Heard
 pub mod Configures
+pub mod Theorems

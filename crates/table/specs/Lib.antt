@@ -3,3 +3,4 @@ pub mod Result
 pub mod Configuring
 pub mod Events
 pub mod Packets
+pub mod Theorems

@@ -3,8 +3,14 @@
 use mathlib.Core.Path.{refl}
 use Rattle.sums.specs.Sum.{plus, sumOf}
 use Rattle.wire.specs.Frame.{messageChecksum, messageOf, headerChecksum, headerOf}
+use Rattle.router.specs.Timers.{skewOf, masterDownOf, advertisementIntervalOf}
+use Rattle.router.specs.Step.{stepOf}
+use Rattle.router.specs.Clock.{tickedOf}
 use Rattle.worked.specs.Cases.{Hold, cases}
 
 pub cases-hold : Hold cases
-unfolding plus sumOf messageChecksum messageOf headerChecksum headerOf
-cases-hold = (refl, (refl, (refl, tt)))
+unfolding plus sumOf messageChecksum messageOf headerChecksum headerOf skewOf masterDownOf advertisementIntervalOf stepOf tickedOf
+cases-hold =
+    (refl, (refl, (refl, (refl, (refl, (refl, (refl, (refl, (refl,
+    (refl, (refl, (refl,
+    (refl, (refl, (refl, (refl, (refl, tt)))))))))))))))))

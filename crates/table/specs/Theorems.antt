@@ -1,0 +1,53 @@
+-- The theorems of this crate, as statements: each is proved under the same name in proofs/Theorems.antt.
+use Prim.Native.Nat.{ℕ, _<_}
+use mathlib.Core.Path.{_≡_}
+use mathlib.Core.List.{List}
+use mathlib.Core.Bool.{Bool}
+use lib.ListN.{length, getD}
+use Rattle.router.specs.declared.step.Event.{Event}
+use Rattle.places.specs.declared.place.Found.the-variants.{At}
+use Rattle.places.specs.Place.{baseOf, recordAt, placeOf}
+use Rattle.table.specs.declared.answer.Answered.{Answered}
+use Rattle.table.specs.Result.{Result, Leaves, routerPlace}
+use Rattle.table.specs.Configuring.{Configured, Removed}
+use Rattle.table.specs.Events.{happenedOf, clockedOf}
+
+-- two outcomes that the promise of a call allows are equal: startup, shutdown, clock and packet
+abbrev pub OneResult : Type 0
+OneResult =
+    (result : Result) (a b : Answered) (words other room otherRoom : List ℕ) → Leaves result a words room
+    → Leaves result b other otherRoom → (a ≡ b) × (words ≡ other) × (room ≡ otherRoom)
+
+-- the same of configuring
+abbrev pub OneConfiguring : Type 0
+OneConfiguring =
+    (words lists : List ℕ) (vrid priority interval : ℕ) (preempt : Bool) (addresses : List ℕ) (a b : ℕ)
+    (after other listsAfter listsOther : List ℕ) → Configured words lists vrid priority interval preempt addresses a after listsAfter
+    → Configured words lists vrid priority interval preempt addresses b other listsOther
+    → (a ≡ b) × (after ≡ other) × (listsAfter ≡ listsOther)
+
+-- the same of removing
+abbrev pub OneRemoving : Type 0
+OneRemoving =
+    (words : List ℕ) (vrid a b : ℕ) (after other : List ℕ) → Removed words vrid a after → Removed words vrid b other
+    → (a ≡ b) × (after ≡ other)
+
+-- "A call for one VRID leaves every other router's record as it was": startup and shutdown, whatever the memory
+abbrev pub EventElsewhere : Type 0
+EventElsewhere =
+    (words lists : List ℕ) (vrid place : ℕ) (event : Event) (room : List ℕ) → length words ≡ 4096
+    → (routerPlace words vrid ≡ At place → ⊥)
+    → recordAt (happenedOf words lists vrid event room .words) place ≡ recordAt words place
+
+-- and a clock step
+abbrev pub ClockElsewhere : Type 0
+ClockElsewhere =
+    (words lists : List ℕ) (vrid place ticks : ℕ) (room : List ℕ) → length words ≡ 4096
+    → (routerPlace words vrid ≡ At place → ⊥)
+    → recordAt (clockedOf words lists vrid ticks room .words) place ≡ recordAt words place
+
+-- "Configuring takes the lowest free place": free is a place whose first word is 0
+abbrev pub LowestFreePlace : Type 0
+LowestFreePlace =
+    (words : List ℕ) (place : ℕ) → placeOf words 0 ≡ At place
+    → (place < 255) × (getD words (baseOf place) 0 ≡ 0) × ((other : ℕ) → other < place → getD words (baseOf other) 0 ≡ 0 → ⊥)
