@@ -74,3 +74,25 @@ found-from words v i (suc n) p e =
 pub found : (words : List ℕ) (v p : ℕ) → placeOf words v ≡ At p → Lowest words v 0 255 p
 unfolding placeOf
 found words v p e = found-from words v 0 255 p e
+
+missing-test : (t : Bool) (words : List ℕ) (v i n : ℕ) (rest : Found) → eqb (getD words (baseOf i) 0) v ≡ t → cond t (At i) rest ≡ Nothing
+    → (rest ≡ Nothing → (q : ℕ) → suc i ≤ q → q < suc i + n → getD words (baseOf q) 0 ≡ v → ⊥)
+    → (q : ℕ) → i ≤ q → q < i + suc n → getD words (baseOf q) 0 ≡ v → ⊥
+missing-test true words v i n rest t e f q a b c = let z : _≡_ {A = ℕ} 0 1 = cc in omega arith
+missing-test false words v i n rest t e f q a b c = other (eq-or-lt-of-le a)
+  where
+    other : (i ≡ q) ⊎ (i < q) → ⊥
+    other (inl y) = eqb-false _ _ t (ap (λ (k : ℕ). getD words (baseOf k) 0) y ∙ c)
+    other (inr y) = f e q y (omega (arith, add-suc i n, suc-add i n)) c
+
+missing-from : (words : List ℕ) (v i n : ℕ) → placeFrom words v i n ≡ Nothing
+    → (q : ℕ) → i ≤ q → q < i + n → getD words (baseOf q) 0 ≡ v → ⊥
+unfolding placeFrom
+missing-from words v i zero e = λ q a b c. omega arith
+missing-from words v i (suc n) e =
+    missing-test (eqb (getD words (baseOf i) 0) v) words v i n (placeFrom words v (suc i) n) refl e (missing-from words v (suc i) n)
+
+-- what is not found stands at no place
+pub missing : (words : List ℕ) (v : ℕ) → placeOf words v ≡ Nothing → (q : ℕ) → q < 255 → getD words (baseOf q) 0 ≡ v → ⊥
+unfolding placeOf
+missing words v e q h c = missing-from words v 0 255 e q (omega arith) (omega arith) c

@@ -50,7 +50,7 @@ decode-encode r h =
       counts = r .counts;
     }
 
-encode-length : (r : Router) → length (encodeOf r) ≡ 16
+pub encode-length : (r : Router) → length (encodeOf r) ≡ 16
 unfolding encodeOf
 encode-length r = refl
 
@@ -60,7 +60,7 @@ module _ (words : List ℕ) (place : ℕ) (r : Router) (below : place < 255) (lo
   record-same h =
       ap decodeOf (part-same words (encodeOf r) (baseOf place) 16 (omega arith) (encode-length r)) ∙ decode-encode r h
 
-  other-part : (t : Bool) (q : ℕ) → ltb q place ≡ t → (q ≡ place → ⊥)
+  pub other-part : (t : Bool) (q : ℕ) → ltb q place ≡ t → (q ≡ place → ⊥)
       → take 16 (drop (baseOf q) (paste words (baseOf place) (encodeOf r) 16)) ≡ take 16 (drop (baseOf q) words)
   other-part true q e n =
       part-before words (encodeOf r) (baseOf place) 16 (baseOf q) 16 (omega arith) (encode-length r) (omega (arith, ltb-true q place e))

@@ -2,3 +2,4 @@ pub mod Timers
 pub mod Step
 pub mod Clock
 pub mod Accept
+pub mod Timed

@@ -5,4 +5,7 @@ pub mod Sought
 pub mod Cleared
 pub mod Heard
 pub mod Configures
+pub mod Held
+pub mod Begun
+pub mod Histories
 pub mod Theorems

@@ -6,7 +6,8 @@ use mathlib.Core.Bool.{Bool, true, false, cond}
 use Prim.Native.Nat.{ℕ, _≤_, _<_}
 use native.Mathlib.Omega.{arith}
 use lib.Dec.{eqb}
-use lib.ListN.{length}
+use lib.ListN.{getD}
+use borrow.Author.Tests.{eqb-false}
 use Rattle.router.specs.declared.record.Router.{Router}
 use Rattle.router.specs.declared.step.Event.{Event}
 use Rattle.router.specs.declared.step.Outcome.{Outcome}
@@ -16,7 +17,7 @@ use Rattle.router.specs.Clock.{tickedOf}
 use Rattle.router.proofs.Kept.{step-keeps, ticked-keeps}
 use Rattle.places.specs.declared.place.Found.{Found}
 use Rattle.places.specs.declared.place.Found.the-variants.{At, Nothing}
-use Rattle.places.specs.Place.{primaryOf, recordAt, placeOf}
+use Rattle.places.specs.Place.{baseOf, primaryOf, recordAt, placeOf}
 use Rattle.places.proofs.Finding.{found}
 use Rattle.places.proofs.Records.{read-in-range}
 use Rattle.table.specs.declared.answer.Answered.{Answered}
@@ -34,6 +35,17 @@ sought-test false words v p e = e
 pub sought-below : (words : List ℕ) (v p : ℕ) → routerPlace words v ≡ At p → p < 255
 unfolding routerPlace
 sought-below words v p e = found words v p (sought-test (eqb v 0) words v p e) .below
+
+-- its first word is its number, which is not 0
+sought-zero-test : (t : Bool) (words : List ℕ) (v p : ℕ) → eqb v 0 ≡ t → cond t Nothing (placeOf words v) ≡ At p → v ≡ 0 → ⊥
+sought-zero-test true words v p s e z = let y : _≡_ {A = ℕ} 0 1 = cc in omega arith
+sought-zero-test false words v p s e z = eqb-false v 0 s z
+
+pub sought-word : (words : List ℕ) (v p : ℕ) → routerPlace words v ≡ At p → (p < 255) × (getD words (baseOf p) 0 ≡ v) × (v ≡ 0 → ⊥)
+unfolding routerPlace
+sought-word words v p e =
+    let l = found words v p (sought-test (eqb v 0) words v p e) in
+    (omega (arith, l .below), l .word, sought-zero-test (eqb v 0) words v p refl e)
 
 -- whatever the memory, an event's outcome has at most 16 addresses
 pub step-most : (words : List ℕ) (p : ℕ) (e : Event) (o : Outcome) → o ≡ stepOf (primaryOf words) (recordAt words p) e

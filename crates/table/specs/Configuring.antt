@@ -67,20 +67,26 @@ unfoldable pub configureRefusal : List ℕ → ℕ → ℕ → ℕ → List ℕ 
 configureRefusal words vrid priority interval addresses =
     firstRefusal (configureChecks words vrid priority interval addresses)
 
--- "Configuring takes the lowest free place": the answer, the words and the address lists
+-- "Configuring takes the lowest free place": the words afterwards
+abbrev pub configuredWords : List ℕ → ℕ → ℕ → ℕ → Bool → List ℕ → List ℕ
+configuredWords words vrid priority interval preempt addresses =
+    cond (eqb (configureRefusal words vrid priority interval addresses) 0)
+    (setRecord words (placeIn (placeOf words 0)) (newRouter vrid priority interval preempt (length addresses / 4)))
+    words
+
+-- and the address lists
+abbrev pub configuredLists : List ℕ → List ℕ → ℕ → ℕ → ℕ → List ℕ → List ℕ
+configuredLists words lists vrid priority interval addresses =
+    cond (eqb (configureRefusal words vrid priority interval addresses) 0)
+    (setList lists (placeIn (placeOf words 0)) addresses)
+    lists
+
+-- the promise of configuring: the answer, the words and the address lists
 pub record Configured (words lists : List ℕ) (vrid priority interval : ℕ) (preempt : Bool) (addresses : List ℕ)
     (answer : ℕ) (after listsAfter : List ℕ) : Type 0 where
   pub answer-is : answer ≡ configureRefusal words vrid priority interval addresses
-  pub words-are :
-      after
-      ≡ cond (eqb (configureRefusal words vrid priority interval addresses) 0)
-      (setRecord words (placeIn (placeOf words 0)) (newRouter vrid priority interval preempt (length addresses / 4)))
-      words
-  pub lists-are :
-      listsAfter
-      ≡ cond (eqb (configureRefusal words vrid priority interval addresses) 0)
-      (setList lists (placeIn (placeOf words 0)) addresses)
-      lists
+  pub words-are : after ≡ configuredWords words vrid priority interval preempt addresses
+  pub lists-are : listsAfter ≡ configuredLists words lists vrid priority interval addresses
 
 -- "remove 20 then 21": VRID not in the table; remove outside Initialize
 abbrev pub removeChecks : List ℕ → ℕ → List Check
@@ -91,8 +97,12 @@ removeChecks words vrid =
 unfoldable pub removeRefusal : List ℕ → ℕ → ℕ
 removeRefusal words vrid = firstRefusal (removeChecks words vrid)
 
--- "Removing frees the place for use again"
+-- "Removing frees the place for use again": the words afterwards
+abbrev pub removedWords : List ℕ → ℕ → List ℕ
+removedWords words vrid =
+    cond (eqb (removeRefusal words vrid) 0) (setRecord words (placeIn (routerPlace words vrid)) freed) words
+
+-- the promise of removing
 pub record Removed (words : List ℕ) (vrid answer : ℕ) (after : List ℕ) : Type 0 where
   pub answer-is : answer ≡ removeRefusal words vrid
-  pub words-are :
-      after ≡ cond (eqb (removeRefusal words vrid) 0) (setRecord words (placeIn (routerPlace words vrid)) freed) words
+  pub words-are : after ≡ removedWords words vrid

@@ -4,3 +4,4 @@ pub mod Configuring
 pub mod Events
 pub mod Packets
 pub mod Theorems
+pub mod Histories

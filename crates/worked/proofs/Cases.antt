@@ -10,7 +10,40 @@ use Rattle.worked.specs.Cases.{Hold, cases}
 
 pub cases-hold : Hold cases
 unfolding plus sumOf messageChecksum messageOf headerChecksum headerOf skewOf masterDownOf advertisementIntervalOf stepOf tickedOf
-cases-hold =
-    (refl, (refl, (refl, (refl, (refl, (refl, (refl, (refl, (refl,
-    (refl, (refl, (refl,
-    (refl, (refl, (refl, (refl, (refl, tt)))))))))))))))))
+cases-hold = (
+  refl,
+  (
+    refl,
+    (
+      refl,
+      (
+        refl,
+        (
+          refl,
+          (
+            refl,
+            (
+              refl,
+              (
+                refl,
+                (
+                  refl,
+                  (
+                    refl,
+                    (
+                      refl,
+                      (
+                        refl,
+                        (refl, (refl, (refl, (refl, (refl, tt))))),
+                      ),
+                    ),
+                  ),
+                ),
+              ),
+            ),
+          ),
+        ),
+      ),
+    ),
+  ),
+)
