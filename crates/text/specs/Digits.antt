@@ -2,7 +2,8 @@
 use Prim.Native.Nat.{ℕ, zero, suc, _+_, _/_, _%_}
 use mathlib.Core.Bool.{cond}
 use mathlib.Core.List.{List, [], _∷_, _++_}
-use lib.Dec.{ltb}
+use lib.Dec.{eqb, ltb}
+use lib.ListN.{length}
 
 -- the decimal digits of n, the greatest first; the other number bounds how many there are
 unfoldable pub digits : ℕ → ℕ → List ℕ
@@ -33,3 +34,7 @@ hexByte b = hexDigit (b / 16) ∷ (hexDigit (b % 16) ∷ [])
 unfoldable pub hexOf : List ℕ → List ℕ
 hexOf [] = []
 hexOf (b ∷ bytes) = hexByte b ++ hexOf bytes
+
+-- bytes in hexadecimal, or a dash where there are none
+abbrev pub hexOrDash : List ℕ → List ℕ
+hexOrDash bytes = cond (eqb (length bytes) 0) (45 ∷ []) (hexOf bytes)

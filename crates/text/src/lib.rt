@@ -3,7 +3,7 @@ ghost use mathlib.Core.Path.{_≡_};
 ghost use mathlib.Core.List.{_∷_, []};
 ghost use Prim.Native.Nat.{_<_, min};
 ghost use Rattle.text.specs.Appended.{Appended};
-ghost use Rattle.text.specs.Digits.{decimalOf, dottedOf, addressOf, hexDigit, hexByte, hexOf};
+ghost use Rattle.text.specs.Digits.{decimalOf, dottedOf, addressOf, hexDigit, hexByte, hexOf, hexOrDash};
 
 fn least(a: usize, b: usize) -> usize
     ensures { λ r. ⌜ r ≡ min a b ⌝ }
@@ -44,6 +44,14 @@ pub fn put_decimal(out: &mut [u8], at: usize, number: u64) -> usize
     }
     let next = put_decimal(out, at, number / 10);
     put_byte(out, next, 48 + (number % 10) as u8)
+}
+
+// Puts a space and a number, as much as fits.
+pub fn put_next(out: &mut [u8], at: usize, number: u64) -> usize
+    ensures { λ r. ⌜ Appended (now (out .entry)) at (32 ∷ decimalOf number) (now (out .exit)) r ⌝ }
+{
+    let next = put_byte(out, at, b' ');
+    put_decimal(out, next, number)
 }
 
 // Puts four bytes as a dotted address, as much as fits.
@@ -98,4 +106,14 @@ pub fn put_hex(out: &mut [u8], at: usize, bytes: &[u8]) -> usize
         k += 1;
     }
     next
+}
+
+// Puts bytes in hexadecimal, or a dash where there are none, as much as fits.
+pub fn put_hex_or_dash(out: &mut [u8], at: usize, bytes: &[u8]) -> usize
+    ensures { λ r. ⌜ Appended (now (out .entry)) at (hexOrDash (now (bytes .entry))) (now (out .exit)) r ⌝ }
+{
+    if bytes.len() == 0 {
+        return put_byte(out, at, b'-');
+    }
+    put_hex(out, at, bytes)
 }

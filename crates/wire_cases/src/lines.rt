@@ -3,18 +3,13 @@ use text::put;
 use text::put_address;
 use text::put_byte;
 use text::put_decimal;
-use text::put_hex;
+use text::put_hex_or_dash;
+use text::put_next;
 use wire::judging::Fields;
 use wire::judging::Judged;
 use wire::room::Written;
 ghost use Prim.Native.Nat.{_≤_};
 ghost use lib.ListN.{length};
-
-// Puts a space and a number.
-fn put_next(line: &mut [u8], at: usize, number: u64) -> usize {
-    let next = put_byte(line, at, b' ');
-    put_decimal(line, next, number)
-}
 
 // Puts who sent an accepted packet, by its source address, VRID and priority.
 fn put_sender(line: &mut [u8], fields: Fields) -> usize {
@@ -49,14 +44,6 @@ pub fn put_judged(line: &mut [u8], packet: &[u8]) -> usize
     }
 }
 
-// Puts the whole room in hexadecimal.
-fn put_room(line: &mut [u8], at: usize, room: &[u8]) -> usize {
-    if room.len() == 0 {
-        return put_byte(line, at, b'-');
-    }
-    put_hex(line, at, room)
-}
-
 // Puts the line of an answer, with the room needed and the room after it.
 fn put_answer(line: &mut [u8], answer: u32, needed: usize, room: &[u8]) -> usize
     ensures { λ r. ⌜ r ≤ length (now (line .exit)) ⌝ }
@@ -64,7 +51,7 @@ fn put_answer(line: &mut [u8], answer: u32, needed: usize, room: &[u8]) -> usize
     let mut at = put_decimal(line, 0, answer as u64);
     at = put_next(line, at, needed as u64);
     at = put_byte(line, at, b' ');
-    at = put_room(line, at, room);
+    at = put_hex_or_dash(line, at, room);
     put_byte(line, at, b'\n')
 }
 

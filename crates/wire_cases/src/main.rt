@@ -3,21 +3,15 @@ mod lines;
 
 use crate::lines::put_judged;
 use crate::lines::put_written;
-use libc::STDIN_FILENO;
-use libc::STDOUT_FILENO;
+use records::Next;
+use records::fresh_room;
+use records::read_kind;
+use records::read_part;
+use records::write_line;
 use sums::number;
 use wire::reading::word;
-ghost use mathlib.Core.Path.{_≡_};
 ghost use Prim.Native.Nat.{_≤_};
 ghost use lib.ListN.{length};
-
-// Reads so many bytes to the start of `bytes`, and answers whether they all came. A part with a start, `0..`, asks the
-// proof for its bounds alone.
-fn read_body(bytes: &mut [u8], size: usize) -> bool
-    requires { ⌜ size ≤ length (now bytes) ⌝ }
-{
-    io::read_full(STDIN_FILENO, &mut bytes[0..size]) == size
-}
 
 // Reads a judge record and puts its line; answers 0 where the record is cut off: no line is empty.
 fn judge_case(bytes: &mut [u8], line: &mut [u8]) -> usize
@@ -25,21 +19,15 @@ fn judge_case(bytes: &mut [u8], line: &mut [u8]) -> usize
     ensures { λ r. ⌜ r ≤ length (now (line .exit)) ⌝ }
 {
     let mut head = [0u8; 2];
-    if io::read_full(STDIN_FILENO, &mut head) < 2 {
+    if !read_part(&mut head) {
         return 0;
     }
     let size = word(head[0], head[1]);
-    if !read_body(bytes, size) {
+    // a part with a start, `0..`, asks the proof for its bounds alone
+    if !read_part(&mut bytes[0..size]) {
         return 0;
     }
     put_judged(line, &bytes[0..size])
-}
-
-// The largest room, all 0xA5, so that a byte that was left alone shows.
-fn fresh_room() -> [u8; 1023]
-    ensures { λ r. ⌜ 1023 ≡ length r ⌝ }
-{
-    [0xA5; 1023]
 }
 
 // Writes an advertisement into a room, and puts its line.
@@ -64,7 +52,7 @@ fn advertisement_case(bytes: &mut [u8], line: &mut [u8]) -> usize
     ensures { λ r. ⌜ r ≤ length (now (line .exit)) ⌝ }
 {
     let mut head = [0u8; 11];
-    if io::read_full(STDIN_FILENO, &mut head) < 11 {
+    if !read_part(&mut head) {
         return 0;
     }
     let size = word(head[7], head[8]);
@@ -72,7 +60,7 @@ fn advertisement_case(bytes: &mut [u8], line: &mut [u8]) -> usize
         return 0;
     }
     let given = word(head[9], head[10]);
-    if !read_body(bytes, given) {
+    if !read_part(&mut bytes[0..given]) {
         return 0;
     }
     let mut room = fresh_room();
@@ -92,7 +80,7 @@ fn arp_case(line: &mut [u8]) -> usize
     ensures { λ r. ⌜ r ≤ length (now (line .exit)) ⌝ }
 {
     let mut head = [0u8; 7];
-    if io::read_full(STDIN_FILENO, &mut head) < 7 {
+    if !read_part(&mut head) {
         return 0;
     }
     let size = word(head[5], head[6]);
@@ -121,16 +109,11 @@ fn put_case(kind: u8, bytes: &mut [u8], line: &mut [u8]) -> usize
 fn take_record(bytes: &mut [u8], line: &mut [u8]) -> bool
     requires { ⌜ 65535 ≤ length (now bytes) ⌝ }
 {
-    let mut kind = [0u8; 1];
-    if io::read_full(STDIN_FILENO, &mut kind) == 0 {
+    let Next::Kind(kind) = read_kind() else {
         return false;
-    }
-    let end = put_case(kind[0], bytes, line);
-    if end == 0 {
-        io::write_all(STDOUT_FILENO, b"bad record\n");
-        return false;
-    }
-    io::write_all(STDOUT_FILENO, &line[0..end])
+    };
+    let end = put_case(kind, bytes, line);
+    write_line(&line[0..end])
 }
 
 // Takes records to the end. A loop has to end, and nothing says that the stream does: it counts down from a number that
