@@ -2,14 +2,13 @@
 -- Assumes nothing.
 use mathlib.Core.Path.{_≡_, refl, sym, ap, _∙_}
 use mathlib.Core.List.{List}
-use Prim.Native.Nat.{ℕ, _+_, _*_, _≤_, _<_}
+use Prim.Native.Nat.{ℕ, _≤_, _<_}
 use native.Mathlib.Nat.{add-zero}
 use native.Mathlib.Omega.{arith}
 use lib.Dec.{ltb}
-use lib.ListN.{length, getD, set, take, drop, length-set}
-use lib.Seq.{paste, getD-take, getD-drop, getD-set-other, drop-set-lt}
+use lib.ListN.{length, getD, take, drop, length-set}
+use lib.Seq.{getD-take, getD-drop, getD-set-other, drop-set-lt}
 use Rattle.router.specs.declared.record.Router.{Router}
-use Rattle.router.specs.Step.{counted}
 use Rattle.places.specs.Layout.{decodeOf, encodeOf}
 use Rattle.places.specs.Place.{baseOf, recordAt, setRecord, countRefusal}
 use Rattle.places.proofs.Parts.{part-same}

@@ -1,7 +1,7 @@
 -- How a router's record lies in 16 words. Every word decodes, so any memory is a table.
 use Prim.Native.Nat.{ℕ, _%_}
 use mathlib.Core.List.{List, [], _∷_}
-use mathlib.Core.Bool.{Bool, true, false, cond}
+use mathlib.Core.Bool.{Bool, cond}
 use lib.ListN.{getD}
 use lib.Dec.{eqb}
 use Rattle.router.specs.declared.record.State.{State}

@@ -1,6 +1,6 @@
 -- The rows of the state-by-event table by their numbers: what state and event a number stands for, and what then happens.
 -- Assumes nothing.
-use mathlib.Core.Path.{_≡_, refl, sym, ap, ap₂, _∙_}
+use mathlib.Core.Path.{_≡_, refl, sym, ap, _∙_}
 use mathlib.Core.Bool.{cond}
 use Prim.Native.Nat.{ℕ, _+_, _*_, _≤_, _<_}
 use native.Mathlib.Omega.{arith}
@@ -12,7 +12,6 @@ use Rattle.router.specs.declared.record.Router.{Router}
 use Rattle.router.specs.declared.step.Event.{Event}
 use Rattle.router.specs.declared.step.Event.the-variants.{Startup, Shutdown, Timer, Packet}
 use Rattle.router.specs.declared.step.Writes.the-variants.{Nothing, Farewell}
-use Rattle.router.specs.declared.step.Outcome.{Outcome}
 use Rattle.router.specs.Step.{stateNumber, eventNumber, eventPriority, eventSource, stays, waits, hurries, stops, advertises}
 use Rattle.router.specs.Step.{takesOver, heardByBackup, heardByMaster, stepIn, stepOf}
 

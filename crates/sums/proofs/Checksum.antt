@@ -1,11 +1,10 @@
 -- A field in two bytes among others, and what it adds to the sum. The facts that follow are in Theorems.antt.
 -- Assumes nothing.
-use mathlib.Core.Path.{_≡_, refl, sym, ap, _∙_}
+use mathlib.Core.Path.{_≡_, sym, ap, _∙_}
 use mathlib.Core.List.{List, [], _∷_, _++_}
-use Prim.Native.Nat.{ℕ, zero, suc, _+_, _-_, _*_, _/_, _%_, _≤_, _<_}
+use Prim.Native.Nat.{ℕ, zero, suc, _+_, _-_, _*_, _/_, _%_, _≤_}
 use native.Mathlib.Omega.{arith}
-use lib.ListN.{length, getD}
-use borrow.Author.Tests.{lt-ltb, le-ltb}
+use lib.ListN.{length}
 use Rattle.sums.specs.Sum.{plus, sumOf, checksumOf, Bytes, withField}
 use Rattle.sums.specs.Total.{folded}
 use Rattle.sums.proofs.Bytes.{bytes-cons, bytes-append}
@@ -34,7 +33,8 @@ pairs-field zero (a ∷ before) after h l e = absurd (omega arith)
 pairs-field (suc j) (a ∷ []) after h l e = absurd (omega arith)
 pairs-field (suc j) (a ∷ (b ∷ before)) after h l e = omega (arith, pairs-field j before after h l (omega arith))
 
-bytes-field : (before after : List ℕ) (field : ℕ) → Bytes before → Bytes after → field ≤ 65535 → Bytes (withField before field after)
+bytes-field : (before after : List ℕ) (field : ℕ) → Bytes before → Bytes after → field ≤ 65535
+    → Bytes (withField before field after)
 bytes-field before after field h k l =
     bytes-append before (field / 256 ∷ (field % 256 ∷ after)) h
     (bytes-cons (field / 256) (field % 256 ∷ after) (omega arith) (bytes-cons (field % 256) after (omega arith) k))
@@ -46,29 +46,31 @@ plus-complement x h =
     rw e
 
 module _ (j : ℕ) (before after : List ℕ) (even : length before ≡ 2 * j) (h : Bytes before) (k : Bytes after) where
-  -- a field adds its own number to the sum with the field taken as zero
-  pub sum-field : (field : ℕ) → field ≤ 65535
-      → sumOf (withField before field after) ≡ plus field (sumOf (withField before 0 after))
-  sum-field field l =
-      let e : 256 * (field / 256) + field % 256 ≡ field = omega arith in
-      sum-pairs (withField before field after) (bytes-field before after field h k l)
-      ∙ ap folded (pairs-field j before after (field / 256) (field % 256) even ∙ ap (λ (x : ℕ). x + pairs (withField before 0 after)) e)
-      ∙ sym (ap (plus field) (sum-pairs (withField before 0 after) (bytes-field before after 0 h k (omega arith)))
-      ∙ plus-folded field (pairs (withField before 0 after)) l)
+  abbrev zeroed : List ℕ
+  zeroed = withField before 0 after
 
-  sum-zeroed : sumOf (withField before 0 after) ≤ 65535
-  sum-zeroed =
-      omega (arith, sum-pairs (withField before 0 after) (bytes-field before after 0 h k (omega arith)), folded-most (pairs (withField before 0 after)))
+  -- with the field taken as zero
+  zeroed-pairs : sumOf zeroed ≡ folded (pairs zeroed)
+  zeroed-pairs = sum-pairs zeroed (bytes-field before after 0 h k (omega arith))
+
+  -- a field adds its own number
+  sum-field : (field : ℕ) → field ≤ 65535 → sumOf (withField before field after) ≡ plus field (sumOf zeroed)
+  sum-field field l =
+      let e : pairs (withField before field after) ≡ field + pairs zeroed =
+      omega (arith, pairs-field j before after (field / 256) (field % 256) even) in
+      sum-pairs (withField before field after) (bytes-field before after field h k l)
+      ∙ rw (e, zeroed-pairs, plus-folded field (pairs zeroed) l)
+
+  sum-zeroed : sumOf zeroed ≤ 65535
+  sum-zeroed = omega (arith, zeroed-pairs, folded-most (pairs zeroed))
 
   -- what is written sums to 0xFFFF
-  pub field-sums : sumOf (withField before (checksumOf (withField before 0 after)) after) ≡ 0xFFFF
-  field-sums =
-      sum-field (checksumOf (withField before 0 after)) (omega arith)
-      ∙ plus-complement (sumOf (withField before 0 after)) sum-zeroed
+  pub field-sums : sumOf (withField before (checksumOf zeroed) after) ≡ 0xFFFF
+  field-sums = sum-field (checksumOf zeroed) (omega arith) ∙ plus-complement (sumOf zeroed) sum-zeroed
 
   -- a field of 0xFFFF where 0x0000 is due passes
-  pub field-of-ones-sums : checksumOf (withField before 0 after) ≡ 0 → sumOf (withField before 0xFFFF after) ≡ 0xFFFF
+  pub field-of-ones-sums : checksumOf zeroed ≡ 0 → sumOf (withField before 0xFFFF after) ≡ 0xFFFF
   unfolding plus
   field-of-ones-sums e =
-      let z : sumOf (withField before 0 after) ≡ 65535 = omega (arith, sum-zeroed) in
+      let z : sumOf zeroed ≡ 65535 = omega (arith, sum-zeroed) in
       sum-field 0xFFFF (omega arith) ∙ ap (plus 0xFFFF) z

@@ -1,9 +1,9 @@
--- What folding is worth: one's complement addition to a folded sum is the folding of the longer sum, and 65536 counts as 1.
+-- What folding is worth: one's complement addition to a folded sum folds the longer sum, and 65536 counts as 1.
 -- Assumes nothing.
 use mathlib.Core.Path.{_≡_, refl, sym, ap, _∙_}
 use mathlib.Core.Bool.{Bool, true, false, cond}
 use Prim.Native.Nat.{ℕ, zero, suc, _+_, _-_, _*_, _%_, _≤_, _<_}
-use native.Mathlib.Nat.{add-mul-mod-self-left, add-suc}
+use native.Mathlib.Nat.{add-mul-mod-self-left}
 use native.Mathlib.Omega.{arith}
 use lib.Dec.{ltb}
 use borrow.Author.Tests.{ltb-true, ltb-false}

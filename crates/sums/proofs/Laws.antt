@@ -1,15 +1,15 @@
 -- The laws of the one's complement sum, once over the length; every proof above cites these and never the definitions.
 -- Assumes nothing.
-use mathlib.Core.Path.{_≡_, refl, sym, ap, _∙_}
+use mathlib.Core.Path.{_≡_, sym, ap, _∙_}
 use mathlib.Core.List.{List, [], _∷_, _++_}
-use Prim.Native.Nat.{ℕ, zero, suc, _+_, _-_, _*_, _%_, _≤_, _<_}
+use Prim.Native.Nat.{ℕ, zero, suc, _+_, _*_, _≤_}
 use native.Mathlib.Numerals.{add-one, add-two, add-three, add-four}
 use native.Mathlib.Omega.{arith}
-use lib.ListN.{length, getD, drop, length-append}
+use lib.ListN.{length, getD, drop, drop-of-length-le}
 use lib.Seq.{drop-cons}
-use Rattle.sums.specs.Sum.{plus, sumOf, checksumOf, Bytes}
+use Rattle.sums.specs.Sum.{plus, sumOf, Bytes}
 use Rattle.sums.specs.Total.{numberOf, total, folded}
-use Rattle.sums.proofs.Folding.{folded-zero, folded-positive, folded-most, folded-small, plus-zero, plus-folded, folded-more}
+use Rattle.sums.proofs.Folding.{folded-zero, folded-small, plus-zero, plus-folded, folded-more}
 
 -- two 16-bit numbers before a folded sum are one 32-bit number
 pair-folded : (h l t : ℕ) → h ≤ 65535 → l ≤ 65535 → plus h (plus l (folded t)) ≡ folded (65536 * h + l + t)
@@ -51,22 +51,21 @@ sum-folded (a ∷ (b ∷ (c ∷ (d ∷ r)))) k =
     ∙ pair-folded (256 * a + b) (256 * c + d) (total r) (omega (arith, k 0, k 1)) (omega (arith, k 2, k 3))
     ∙ ap folded e
 
-pub sum-most : (s : List ℕ) → Bytes s → sumOf s ≤ 65535
-sum-most s k = omega (arith, sum-folded s k, folded-most (total s))
-
-pub total-none : total [] ≡ 0
+-- past the end there is nothing to sum
+pub total-past : (s : List ℕ) (i : ℕ) → length s ≤ i → total (drop i s) ≡ 0
 unfolding total
-total-none = refl
+total-past s i h = ap total (drop-of-length-le s h)
 
 -- four bytes of a list, and the total of what is after them
 pub total-drop : (s : List ℕ) (i : ℕ) → i + 4 ≤ length s
-    → total (drop i s) ≡ numberOf (getD s i 0) (getD s (i + 1) 0) (getD s (i + 2) 0) (getD s (i + 3) 0) + total (drop (i + 4) s)
+    → total (drop i s)
+    ≡ numberOf (getD s i 0) (getD s (i + 1) 0) (getD s (i + 2) 0) (getD s (i + 3) 0) + total (drop (i + 4) s)
 unfolding total
 total-drop s i h =
-    let a : drop i s ≡ getD s i 0 ∷ drop (suc i) s = drop-cons s i 0 (omega arith) in
-    let b : drop (suc i) s ≡ getD s (suc i) 0 ∷ drop (suc (suc i)) s = drop-cons s (suc i) 0 (omega arith) in
-    let c : drop (suc (suc i)) s ≡ getD s (suc (suc i)) 0 ∷ drop (suc (suc (suc i))) s = drop-cons s (suc (suc i)) 0 (omega arith) in
-    let d : drop (suc (suc (suc i))) s ≡ getD s (suc (suc (suc i))) 0 ∷ drop (suc (suc (suc (suc i)))) s = drop-cons s (suc (suc (suc i))) 0 (omega arith) in
+    let a = drop-cons s i 0 (omega arith) in
+    let b = drop-cons s (suc i) 0 (omega arith) in
+    let c = drop-cons s (suc (suc i)) 0 (omega arith) in
+    let d = drop-cons s (suc (suc (suc i))) 0 (omega arith) in
     simp (add-one, add-two, add-three, add-four) (rw (a, b, c, d))
 
 -- the total of a concatenation, where the first list fills its last number

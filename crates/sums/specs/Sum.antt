@@ -13,7 +13,8 @@ Bytes s = (i : ℕ) → getD s i 0 < 256
 unfoldable pub plus : ℕ → ℕ → ℕ
 plus a b = cond (ltb (a + b) 65536) (a + b) (a + b - 65535)
 
--- "the one's complement sum": the bytes two by two as 16-bit numbers, first byte greatest; an odd last byte has a zero after it
+-- "the one's complement sum": the bytes two by two as 16-bit numbers, first byte greatest;
+-- an odd last byte has a zero after it
 unfoldable pub sumOf : List ℕ → ℕ
 sumOf [] = 0
 sumOf (a ∷ []) = 256 * a

@@ -20,4 +20,5 @@ DueZeroPasses =
 
 -- "we write 0x0000": where a field of 0x0000 passes, it is the checksum that is written
 abbrev pub ZeroIsWritten : Type 0
-ZeroIsWritten = (before after : List ℕ) → sumOf (withField before 0 after) ≡ 0xFFFF → checksumOf (withField before 0 after) ≡ 0x0000
+ZeroIsWritten =
+    (before after : List ℕ) → sumOf (withField before 0 after) ≡ 0xFFFF → checksumOf (withField before 0 after) ≡ 0x0000

@@ -1,8 +1,8 @@
 -- An empty table: every place is free.
 -- Assumes nothing.
 use mathlib.Core.Path.{_≡_, refl, sym, ap, _∙_}
-use mathlib.Core.List.{List, [], _∷_}
-use Prim.Native.Nat.{ℕ, zero, suc, _+_, _-_, _*_, _≤_, _<_}
+use mathlib.Core.List.{List, _∷_}
+use Prim.Native.Nat.{ℕ, zero, suc, _+_, _-_, _*_, _<_}
 use native.Mathlib.Nat.{suc-add}
 use native.Mathlib.Omega.{arith}
 use lib.ListN.{length, getD, take, drop, replicate, length-replicate, getD-replicate}
@@ -10,7 +10,6 @@ use Rattle.router.specs.declared.record.Router.{Router}
 use Rattle.places.specs.Layout.{decodeOf}
 use Rattle.places.specs.Place.{baseOf, recordAt}
 use Rattle.table.specs.Configuring.{emptyOf, freed}
-use Rattle.table.specs.Histories.{Unique, Sound}
 use Rattle.table.proofs.Held.{Held}
 
 abbrev zeros : ℕ → List ℕ

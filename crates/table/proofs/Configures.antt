@@ -1,22 +1,22 @@
 -- The ends of configuring and removing.
 -- Assumes nothing.
-use mathlib.Core.Path.{_≡_, refl, sym, ap, _∙_}
+use mathlib.Core.Path.{_≡_, sym, ap, _∙_}
 use mathlib.Core.List.{List}
-use mathlib.Core.Bool.{Bool, true, false, not, _||_}
+use mathlib.Core.Bool.{Bool, not, _||_}
 use Prim.Native.Nat.{ℕ, _/_, _%_, _≤_}
 use native.Mathlib.Omega.{arith}
 use lib.Dec.{eqb, ltb}
 use lib.ListN.{length}
 use borrow.Author.Tests.{eq-eqb, ne-eqb, not-false, ltb-false}
 use Rattle.wire.specs.Writing.{addressBytesWrong}
-use Rattle.wire.proofs.Checks.{passed, either-passed}
+use Rattle.wire.proofs.Checks.{passed}
+use Rattle.wire.proofs.Tested.{two-passed}
 use Rattle.router.specs.Step.{stateNumber}
-use Rattle.places.specs.declared.place.Found.{Found}
 use Rattle.places.specs.declared.place.Found.the-variants.{At, Nothing}
 use Rattle.places.specs.Place.{recordAt, setRecord, placeOf}
 use Rattle.table.specs.Lists.{setList}
 use Rattle.table.specs.Result.{routerPlace}
-use Rattle.table.specs.Configuring.{isFound, placeIn, newRouter, freed, configureChecks, configureRefusal, Configured}
+use Rattle.table.specs.Configuring.{isFound, newRouter, freed, configureChecks, configureRefusal, Configured}
 use Rattle.table.specs.Configuring.{removeRefusal, Removed}
 
 module _ (words lists : List ℕ) (v priority interval : ℕ) (preempt : Bool) (addresses : List ℕ) where
@@ -46,7 +46,7 @@ module _ (words lists : List ℕ) (v priority interval : ℕ) (preempt : Bool) (
   configure-most e =
       let p = passed (configureChecks words v priority interval addresses) (omega arith) e in
       let n = length addresses in
-      ltb-false 64 n (either-passed (not (eqb (n % 4) 0) || eqb n 0) (ltb 64 n) (p .1 .1 .1 .0) .1)
+      ltb-false 64 n (two-passed (not (eqb (n % 4) 0) || eqb n 0) (ltb 64 n) (p .1 .1 .1 .0) .1)
 
 module _ (words : List ℕ) (v : ℕ) where
   pub remove-unknown : routerPlace words v ≡ Nothing → Removed words v 20 words

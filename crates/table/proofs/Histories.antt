@@ -1,12 +1,12 @@
 -- Every call keeps what holds of a table, so it holds after every history from an empty one.
 -- Assumes nothing.
-use mathlib.Core.Path.{_≡_, refl, sym, ap, subst, _∙_}
+use mathlib.Core.Path.{_≡_, refl, sym, _∙_}
 use mathlib.Core.List.{List, [], _∷_}
 use mathlib.Core.Bool.{Bool, true, false, cond}
-use Prim.Native.Nat.{ℕ, _+_, _*_, _/_, _≤_, _<_}
+use Prim.Native.Nat.{ℕ, _*_, _/_, _≤_, _<_}
 use native.Mathlib.Omega.{arith}
 use lib.Dec.{eqb, ltb}
-use lib.ListN.{length, getD}
+use lib.ListN.{length}
 use borrow.Author.Tests.{eqb-true, eqb-false, not-false}
 use Rattle.wire.specs.declared.judging.Fields.{Fields}
 use Rattle.wire.specs.declared.judging.Judged.{Judged}
@@ -14,12 +14,9 @@ use Rattle.wire.specs.declared.judging.Judged.the-variants.{Accepted, Refused}
 use Rattle.wire.specs.Judging.{judgedOf}
 use Rattle.wire.proofs.Accepted.{refused-most}
 use Rattle.wire.proofs.Checks.{passed}
-use Rattle.router.specs.declared.record.Router.{Router}
 use Rattle.router.specs.declared.step.Event.{Event}
 use Rattle.router.specs.declared.step.Event.the-variants.{Startup, Shutdown, Packet}
 use Rattle.router.specs.declared.step.Outcome.{Outcome}
-use Rattle.router.specs.Step.{stepOf}
-use Rattle.router.specs.Clock.{tickedOf}
 use Rattle.router.specs.Accept.{refusedOf, acceptedOf}
 use Rattle.router.specs.Timed.{Timed}
 use Rattle.router.proofs.Kept.{Kept, step-keeps, ticked-keeps}
@@ -27,7 +24,7 @@ use Rattle.router.proofs.Timed.{step-timed, ticked-timed}
 use Rattle.output.specs.Output.{needOf}
 use Rattle.places.specs.declared.place.Found.{Found}
 use Rattle.places.specs.declared.place.Found.the-variants.{At, Nothing}
-use Rattle.places.specs.Place.{baseOf, primaryOf, recordAt, setRecord, placeOf, countRefusal}
+use Rattle.places.specs.Place.{primaryOf, recordAt, setRecord, placeOf}
 use Rattle.places.proofs.Finding.{found, missing}
 use Rattle.places.proofs.Records.{InRange, read-in-range}
 use Rattle.table.specs.Result.{Result, routerPlace, actedOf}

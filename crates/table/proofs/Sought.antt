@@ -1,6 +1,6 @@
 -- A virtual router that was looked for, and what a call then comes to.
 -- Assumes nothing.
-use mathlib.Core.Path.{_≡_, refl, sym, ap, subst, _∙_}
+use mathlib.Core.Path.{_≡_, refl, ap, subst}
 use mathlib.Core.List.{List}
 use mathlib.Core.Bool.{Bool, true, false, cond}
 use Prim.Native.Nat.{ℕ, _≤_, _<_}
@@ -8,24 +8,20 @@ use native.Mathlib.Omega.{arith}
 use lib.Dec.{eqb}
 use lib.ListN.{getD}
 use borrow.Author.Tests.{eqb-false}
-use Rattle.router.specs.declared.record.Router.{Router}
 use Rattle.router.specs.declared.step.Event.{Event}
 use Rattle.router.specs.declared.step.Outcome.{Outcome}
 use Rattle.router.specs.declared.clock.Ticked.{Ticked}
 use Rattle.router.specs.Step.{stepOf}
 use Rattle.router.specs.Clock.{tickedOf}
 use Rattle.router.proofs.Kept.{step-keeps, ticked-keeps}
-use Rattle.places.specs.declared.place.Found.{Found}
 use Rattle.places.specs.declared.place.Found.the-variants.{At, Nothing}
 use Rattle.places.specs.Place.{baseOf, primaryOf, recordAt, placeOf}
 use Rattle.places.proofs.Finding.{found}
 use Rattle.places.proofs.Records.{read-in-range}
 use Rattle.table.specs.declared.answer.Answered.{Answered}
 use Rattle.table.specs.declared.answer.Answered.the-variants.{Refused}
-use Rattle.table.specs.declared.answer.Told.{Told}
-use Rattle.table.specs.declared.answer.Told.the-variants.{Of}
 use Rattle.table.specs.Result.{Result, Leaves, refuses, routerPlace, actedOf}
-use Rattle.table.specs.Events.{happenedAt, happenedOf, clockedAt, clockedOf, toldAt, toldOf}
+use Rattle.table.specs.Events.{happenedOf, clockedOf}
 
 sought-test : (t : Bool) (words : List ℕ) (v p : ℕ) → cond t Nothing (placeOf words v) ≡ At p → placeOf words v ≡ At p
 sought-test true words v p e = absurd (let z : _≡_ {A = ℕ} 0 1 = cc in omega arith)

@@ -14,7 +14,7 @@ use Rattle.router.specs.Clock.{tickedOf}
 use Rattle.output.specs.Output.{needOf}
 use Rattle.places.specs.declared.place.Found.{Found}
 use Rattle.places.specs.declared.place.Found.the-variants.{At, Nothing}
-use Rattle.places.specs.Place.{primaryOf, recordAt, setRecord, placeOf}
+use Rattle.places.specs.Place.{primaryOf, recordAt, setRecord}
 use Rattle.places.proofs.Finding.{found}
 use Rattle.places.proofs.Records.{record-other}
 use Rattle.table.specs.Result.{routerPlace, actedOf}

@@ -7,8 +7,7 @@ use lib.Dec.{eqb}
 use lib.ListN.{length, replicate}
 use Rattle.wire.specs.Check.{Check, firstRefusal}
 use Rattle.wire.specs.Writing.{addressBytesWrong}
-use Rattle.router.specs.declared.record.State.{State}
-use Rattle.router.specs.declared.record.State.the-variants.{Initialize, Backup, Master}
+use Rattle.router.specs.declared.record.State.the-variants.{Initialize}
 use Rattle.router.specs.declared.record.Counts.{Counts}
 use Rattle.router.specs.declared.record.Router.{Router}
 use Rattle.router.specs.Step.{stateNumber}

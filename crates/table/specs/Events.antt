@@ -3,7 +3,6 @@ use Prim.Native.Nat.{ℕ}
 use mathlib.Core.List.{List}
 use mathlib.Core.Bool.{cond, _||_}
 use lib.Dec.{eqb, ltb}
-use Rattle.router.specs.declared.record.Router.{Router}
 use Rattle.router.specs.declared.step.Event.{Event}
 use Rattle.router.specs.Step.{stepOf}
 use Rattle.router.specs.Clock.{tickedOf}

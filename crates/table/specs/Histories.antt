@@ -3,7 +3,7 @@ use Prim.Native.Nat.{ℕ, _≤_, _<_}
 use mathlib.Core.Path.{_≡_}
 use mathlib.Core.List.{List, [], _∷_}
 use mathlib.Core.Bool.{Bool}
-use lib.ListN.{length, getD}
+use lib.ListN.{getD}
 use Rattle.router.specs.declared.step.Event.the-variants.{Startup, Shutdown}
 use Rattle.router.specs.Timed.{Timed}
 use Rattle.places.specs.Place.{baseOf, recordAt}

@@ -1,5 +1,5 @@
 -- Address lists in lent bytes: 64 for each place (01, 'The table': "1 to 16 virtual addresses").
-use Prim.Native.Nat.{ℕ, _+_, _*_}
+use Prim.Native.Nat.{ℕ, _*_}
 use mathlib.Core.List.{List, [], _∷_}
 use mathlib.Core.Bool.{Bool, true, false, _&&_}
 use lib.Dec.{eqb}

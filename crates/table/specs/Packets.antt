@@ -7,7 +7,6 @@ use Rattle.wire.specs.declared.judging.Fields.{Fields}
 use Rattle.wire.specs.declared.judging.Judged.{Judged}
 use Rattle.wire.specs.declared.judging.Judged.the-variants.{Accepted, Refused}
 use Rattle.wire.specs.Judging.{judgedOf}
-use Rattle.router.specs.declared.record.Router.{Router}
 use Rattle.router.specs.declared.step.Event.the-variants.{Packet}
 use Rattle.router.specs.declared.step.Outcome.{Outcome}
 use Rattle.router.specs.Step.{stepOf}

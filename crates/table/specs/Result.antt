@@ -9,7 +9,7 @@ use Rattle.router.specs.declared.step.Outcome.{Outcome}
 use Rattle.wire.specs.Writing.{over}
 use Rattle.output.specs.Output.{bytesOf, needOf}
 use Rattle.places.specs.declared.place.Found.{Found}
-use Rattle.places.specs.declared.place.Found.the-variants.{At, Nothing}
+use Rattle.places.specs.declared.place.Found.the-variants.{Nothing}
 use Rattle.places.specs.Place.{primaryOf, setRecord, placeOf}
 use Rattle.table.specs.declared.answer.Answered.{Answered}
 use Rattle.table.specs.declared.answer.Answered.the-variants.{Done, Refused, Short}

@@ -15,9 +15,10 @@ pub record Answered (refusal : ℕ) (frame before : List ℕ) (answer : ℕ) (af
 -- writing an advertisement frame
 abbrev pub AdvertisementAnswered : ℕ → ℕ → ℕ → ℕ → List ℕ → List ℕ → ℕ → List ℕ → Type 0
 AdvertisementAnswered vrid priority interval primary addresses before answer after =
-    Answered (advertisementRefusal vrid interval addresses (length before)) (frameOf vrid priority interval primary addresses) before
-    answer after
+    Answered (advertisementRefusal vrid interval addresses (length before))
+    (frameOf vrid priority interval primary addresses) before answer after
 
 -- writing a gratuitous ARP frame
 abbrev pub ArpAnswered : ℕ → ℕ → List ℕ → ℕ → List ℕ → Type 0
-ArpAnswered vrid address before answer after = Answered (arpRefusal vrid (length before)) (arpOf vrid address) before answer after
+ArpAnswered vrid address before answer after =
+    Answered (arpRefusal vrid (length before)) (arpOf vrid address) before answer after

@@ -1,6 +1,6 @@
 -- What an answer of judging says of its packet: a refusal is at most 8, and the address list of an accepted packet lies in it.
 -- Assumes nothing.
-use mathlib.Core.Path.{_≡_, refl, sym, ap, _∙_}
+use mathlib.Core.Path.{_≡_, refl, ap}
 use mathlib.Core.List.{List, [], _∷_}
 use mathlib.Core.Bool.{Bool, true, false, cond}
 use Prim.Native.Nat.{ℕ, _+_, _-_, _*_, _≤_}
@@ -15,8 +15,9 @@ use Rattle.wire.specs.Reading.{byteAt}
 use Rattle.wire.specs.Packet.{headerLength, totalLength, headerChecks, payload}
 use Rattle.wire.specs.Message.{messageChecks}
 use Rattle.wire.specs.Judging.{packetChecks, refusalOf, fieldsOf, judgedOf}
-use Rattle.wire.proofs.Checks.{Numbered, passed, all-pass}
-use Rattle.wire.proofs.Passing.{header-passed, message-passed, message-decides}
+use Rattle.wire.proofs.Checks.{passed, all-pass}
+use Rattle.wire.proofs.Messages.{message-passed}
+use Rattle.wire.proofs.Passing.{header-passed}
 
 -- every number of a list of checks is at most this
 abbrev pub AtMost : ℕ → List Check → Type 0

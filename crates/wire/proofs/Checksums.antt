@@ -1,11 +1,11 @@
 -- What the code sums for a checksum is the plain total of the header or the message with the field taken as zero.
 -- Assumes nothing.
-use mathlib.Core.Path.{_≡_, refl, sym, ap, _∙_}
-use mathlib.Core.List.{List, [], _∷_, _++_}
-use Prim.Native.Nat.{ℕ, _+_, _-_, _*_, _/_, _%_, _≤_, _<_, _^_}
+use mathlib.Core.Path.{_≡_}
+use mathlib.Core.List.{List, [], _∷_}
+use Prim.Native.Nat.{ℕ, _+_, _-_, _/_, _%_, _≤_, _<_}
 use native.Mathlib.Omega.{arith}
 use lib.ListN.{length, replicate}
-use Rattle.sums.specs.Sum.{sumOf, Bytes, withField}
+use Rattle.sums.specs.Sum.{Bytes, withField}
 use Rattle.sums.specs.Total.{numberOf, total, folded}
 use Rattle.sums.proofs.Bytes.{bytes-each, bytes-append}
 use Rattle.sums.proofs.Laws.{sum-folded, total-append}
@@ -19,28 +19,24 @@ pub end-bytes : (addresses : List ℕ) → Bytes addresses → Bytes (messageEnd
 end-bytes addresses h = bytes-append addresses (replicate 8 0) h (bytes-each (replicate 8 0) (omega arith))
 
 module _ (vrid priority interval : ℕ) (addresses : List ℕ) where
-  pub start-bytes : vrid < 256 → priority < 256 → interval < 256 → length addresses ≤ 1020
-      → Bytes (messageStart vrid priority interval addresses)
-  start-bytes a b c d = bytes-each (messageStart vrid priority interval addresses) (omega arith)
-
-  message-total : (k : ℕ) → length addresses ≡ 4 * k
+  message-total : length addresses % 4 ≡ 0
       → total (withField (messageStart vrid priority interval addresses) 0 (messageEnd addresses))
       ≡ numberOf 0x21 vrid priority (length addresses / 4) + (numberOf 0 interval 0 0 + total addresses)
   unfolding total
-  message-total k h = omega (arith, total-append k addresses (replicate 8 0) h)
+  message-total h = omega (arith, total-append (length addresses / 4) addresses (replicate 8 0) (omega arith))
 
-  pub message-sum : (k plain : ℕ) → length addresses ≡ 4 * k → length addresses ≤ 1020 → vrid < 256 → priority < 256 → interval < 256
-      → Bytes addresses
+  pub message-sum : (plain fold : ℕ)
+      → (length addresses % 4 ≡ 0) × (length addresses ≤ 1020) × (vrid < 256) × (priority < 256) × (interval < 256)
+      → Bytes addresses → fold ≡ folded plain
       → plain ≡ numberOf 0x21 vrid priority (length addresses / 4) + numberOf 0 interval 0 0 + total addresses
-      → 65535 - folded plain ≡ messageChecksum vrid priority interval addresses
+      → 65535 - fold ≡ messageChecksum vrid priority interval addresses
   unfolding messageChecksum
-  message-sum k plain h l a b c s e =
+  message-sum plain fold h s f e =
       let list = withField (messageStart vrid priority interval addresses) 0 (messageEnd addresses) in
-      let t : plain ≡ total list = omega (arith, message-total k h) in
+      let t : plain ≡ total list = omega (arith, message-total (h .0)) in
       let start : List ℕ = 0x21 ∷ (vrid ∷ (priority ∷ (length addresses / 4 ∷ (0 ∷ (interval ∷ (0 ∷ (0 ∷ []))))))) in
-      let bytes : Bytes list =
-      bytes-append start (messageEnd addresses) (bytes-each start (omega arith)) (end-bytes addresses s) in
-      ap (λ (x : ℕ). 65535 - x) (ap folded t ∙ sym (sum-folded list bytes))
+      let bytes = bytes-append start (messageEnd addresses) (bytes-each start (omega arith)) (end-bytes addresses s) in
+      rw (f, t, sum-folded list bytes)
 
 module _ (primary : ℕ) (addresses : List ℕ) (p : primary < 4294967296) (l : length addresses ≤ 65499) where
   header-total : total (withField (headerStart addresses) 0 (headerEnd primary))
@@ -48,10 +44,10 @@ module _ (primary : ℕ) (addresses : List ℕ) (p : primary < 4294967296) (l : 
   unfolding total
   header-total = omega (arith, number-of-bytes primary)
 
-  pub header-sum : (plain : ℕ) → plain ≡ 0x45000000 + 0x00004000 + 0xFF700000 + 0xE0000012 + 36 + length addresses + primary
-      → 65535 - folded plain ≡ headerChecksum primary addresses
+  pub header-sum : (plain fold : ℕ) → fold ≡ folded plain
+      → plain ≡ 0x45000000 + 0x00004000 + 0xFF700000 + 0xE0000012 + 36 + length addresses + primary
+      → 65535 - fold ≡ headerChecksum primary addresses
   unfolding headerChecksum
-  header-sum plain e =
+  header-sum plain fold f e =
       let list = withField (headerStart addresses) 0 (headerEnd primary) in
-      let t : plain ≡ total list = e ∙ sym header-total in
-      ap (λ (x : ℕ). 65535 - x) (ap folded t ∙ sym (sum-folded list (bytes-each list (omega arith))))
+      rw (f, e, ← header-total, sum-folded list (bytes-each list (omega arith)))

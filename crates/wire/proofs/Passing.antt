@@ -1,31 +1,24 @@
--- What passing the header's and the message's checks says, and how the two lists of checks decide together.
+-- How the header's and the message's checks decide a packet together, in the steps of `judge`.
 -- Assumes nothing.
 use mathlib.Core.Path.{_≡_, refl, sym, _∙_}
 use mathlib.Core.Bool.{Bool, true, false, cond}
 use mathlib.Core.List.{List}
 use Prim.Native.Nat.{ℕ, _+_, _-_, _≤_}
 use native.Mathlib.Omega.{arith}
-use lib.Dec.{ltb, eqb}
+use lib.Dec.{eqb}
 use lib.ListN.{length, take, drop}
-use borrow.Author.Tests.{ltb-false, eqb-true, eq-eqb, ne-eqb}
+use borrow.Author.Tests.{eqb-true, eq-eqb, ne-eqb}
 use Rattle.wire.specs.Check.{firstRefusal}
 use Rattle.wire.specs.declared.judging.Fields.{Fields}
 use Rattle.wire.specs.declared.judging.Judged.the-variants.{Accepted, Refused}
 use Rattle.wire.specs.Reading.{numberAt}
 use Rattle.wire.specs.Packet.{headerLength, totalLength, headerChecks, payload}
-use Rattle.wire.specs.Message.{messageLength, messageChecks, tooShort}
+use Rattle.wire.specs.Message.{messageChecks}
 use Rattle.wire.specs.Judging.{refusalOf, fieldsIn, fieldsOf, judgedOf, judgedNumber}
-use Rattle.wire.proofs.Checks.{passed, equal-passed, either-passed, refusal-after, refusal-before}
+use Rattle.wire.proofs.Tested.{tests}
+use Rattle.wire.proofs.Checks.{passed, refusal-after, refusal-before}
 use Rattle.wire.proofs.Readable.{Readable, readable}
-
-pub header-passed : (packet : List ℕ) → firstRefusal (headerChecks packet) ≡ 0 → Readable packet
-header-passed packet e = readable packet (equal-passed _ _ (passed (headerChecks packet) (omega arith) e .0))
-
-pub message-passed : (payload : List ℕ) → firstRefusal (messageChecks payload) ≡ 0 → messageLength payload ≤ length payload
-unfolding tooShort
-message-passed payload e =
-    ltb-false _ _
-    (either-passed (ltb (length payload) 8) (ltb (length payload) (messageLength payload)) (passed (messageChecks payload) (omega arith) e .1 .0) .1)
+use Rattle.wire.proofs.Messages.{message-passed}
 
 -- where the header passes, the message decides
 pub message-decides : (packet : List ℕ) → firstRefusal (headerChecks packet) ≡ 0
@@ -33,30 +26,59 @@ pub message-decides : (packet : List ℕ) → firstRefusal (headerChecks packet)
 unfolding refusalOf
 message-decides packet e = refusal-after (headerChecks packet) (messageChecks (payload packet)) (omega arith) e
 
--- where it does not, it decides
-pub header-decides : (packet : List ℕ) → ¬ (firstRefusal (headerChecks packet) ≡ 0)
-    → refusalOf packet ≡ firstRefusal (headerChecks packet)
-unfolding refusalOf
-header-decides packet e = refusal-before (headerChecks packet) (messageChecks (payload packet)) e
-
-pub refuses : (packet : List ℕ) (number : ℕ) → number ≡ refusalOf packet → ¬ (number ≡ 0) → Refused number ≡ judgedOf packet
+refuses : (packet : List ℕ) (number : ℕ) → number ≡ refusalOf packet → ¬ (number ≡ 0) → Refused number ≡ judgedOf packet
 unfolding judgedOf
 refuses packet number e n = rw (e, ne-eqb (refusalOf packet) 0 (λ z. n (e ∙ z)))
 
-pub accepts : (packet : List ℕ) (fields : Fields) → refusalOf packet ≡ 0 → fields ≡ fieldsOf packet → Accepted fields ≡ judgedOf packet
+pub accepts : (packet : List ℕ) (fields : Fields) → refusalOf packet ≡ 0 → fields ≡ fieldsOf packet
+    → Accepted fields ≡ judgedOf packet
 unfolding judgedOf
 accepts packet fields e f = rw (eq-eqb (refusalOf packet) 0 e, f)
 
--- the part of the packet that the code cuts out is the payload
-pub part-is-payload : (packet : List ℕ) (start end : ℕ) → start ≡ headerLength packet → end ≡ totalLength packet
-    → take (end - start) (drop start packet) ≡ payload packet
-part-is-payload packet start end s e = rw (s, e)
+-- the header refuses
+pub header-refuses : (packet : List ℕ) (number : ℕ) → number ≡ firstRefusal (headerChecks packet) → ¬ (number ≡ 0)
+    → Refused number ≡ judgedOf packet
+unfolding refusalOf
+header-refuses packet number e n =
+    let decides = refusal-before (headerChecks packet) (messageChecks (payload packet)) (omega arith) in
+    refuses packet number (e ∙ sym decides) n
 
--- what the code reads from that part are the fields
-pub fields-read : (packet message : List ℕ) (source list : ℕ) → source ≡ numberAt packet 12 → message ≡ payload packet
-    → list ≡ headerLength packet + 8 → fieldsIn source message list ≡ fieldsOf packet
-unfolding fieldsOf
-fields-read packet message source list s m l = rw (s, m, l)
+-- the header passes
+pub header-passed : (packet : List ℕ) → firstRefusal (headerChecks packet) ≡ 0 → Readable packet
+header-passed packet e =
+    let p = passed (headerChecks packet) (omega arith) e in
+    readable packet (omega tests)
+
+-- a packet whose header has passed, and the ends of the part that is cut out for its payload
+pub record Cut (packet : List ℕ) (start end : ℕ) : Type 0 where
+  pub passes : firstRefusal (headerChecks packet) ≡ 0
+  pub start-is : start ≡ headerLength packet
+  pub end-is : end ≡ totalLength packet
+
+module _ (packet : List ℕ) (start end : ℕ) (cut : Cut packet start end) where
+  abbrev part : List ℕ
+  part = take (end - start) (drop start packet)
+
+  part-is : part ≡ payload packet
+  part-is = rw (cut .start-is, cut .end-is)
+
+  part-decides : firstRefusal (messageChecks part) ≡ refusalOf packet
+  part-decides = rw part-is (sym (message-decides packet (cut .passes)))
+
+  -- the message refuses
+  pub cut-refuses : (number : ℕ) → number ≡ firstRefusal (messageChecks part) → ¬ (number ≡ 0)
+      → Refused number ≡ judgedOf packet
+  cut-refuses number e n = refuses packet number (e ∙ part-decides) n
+
+  -- the message passes: it has its first 8 bytes, and its fields are the packet's
+  pub cut-holds : firstRefusal (messageChecks part) ≡ 0 → 8 ≤ length part
+  cut-holds e = omega (arith, message-passed part e)
+
+  pub cut-accepts : (fields : Fields) (source : ℕ) → firstRefusal (messageChecks part) ≡ 0 → source ≡ numberAt packet 12
+      → fields ≡ fieldsIn source part (start + 8) → Accepted fields ≡ judgedOf packet
+  unfolding fieldsOf
+  cut-accepts fields source e s f =
+      accepts packet fields (sym part-decides ∙ e) (f ∙ rw (part-is, s, cut .start-is))
 
 -- the number of a packet's answer is its refusal
 judged-number-test : (t : Bool) (packet : List ℕ) → eqb (refusalOf packet) 0 ≡ t

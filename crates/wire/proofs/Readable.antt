@@ -1,14 +1,14 @@
--- What a packet with no cause of refusal 1 is: the facts that every read of it leans on.
+-- The causes of refusal 1: which of them is the first, and what a packet with none is, on which every read of it leans.
 -- Assumes nothing.
 use mathlib.Core.Path.{_≡_}
 use mathlib.Core.List.{List}
-use Prim.Native.Nat.{ℕ, _*_, _/_, _%_, _≤_}
+use Prim.Native.Nat.{ℕ, _/_, _%_, _≤_}
 use native.Mathlib.Omega.{arith}
 use lib.ListN.{length}
-use borrow.Author.Tests.{ltb-false}
 use Rattle.wire.specs.Reading.{byteAt}
 use Rattle.wire.specs.Packet.{headerLength, totalLength, causes, causeOf}
-use Rattle.wire.proofs.Checks.{passed, equal-passed}
+use Rattle.wire.proofs.Tested.{tests}
+use Rattle.wire.proofs.Checks.{First, first, passed}
 
 pub record Readable (packet : List ℕ) : Type 0 where
   pub given : 20 ≤ length packet
@@ -20,13 +20,8 @@ pub record Readable (packet : List ℕ) : Type 0 where
 
 pub readable : (packet : List ℕ) → causeOf packet ≡ 0 → Readable packet
 unfolding causeOf
-readable packet e =
-    let f = passed (causes packet) (omega arith) e in
-    record {
-      given = ltb-false _ _ (f .0);
-      version = equal-passed _ _ (f .1 .0);
-      field = ltb-false _ _ (f .1 .1 .0);
-      header = ltb-false _ _ (f .1 .1 .1 .0);
-      low = ltb-false _ _ (f .1 .1 .1 .1 .0);
-      high = ltb-false _ _ (f .1 .1 .1 .1 .1 .0);
-    }
+readable packet e = let p = passed (causes packet) (omega arith) e in omega tests
+
+pub cause-is : {r : ℕ} (packet : List ℕ) → First r (causes packet) → r ≡ causeOf packet
+unfolding causeOf
+cause-is packet h = first _ (causes packet) h

@@ -9,9 +9,11 @@ use Rattle.wire.specs.Reading.{twoBytes, fourBytes}
 abbrev pub virtualMac : ℕ → List ℕ
 virtualMac vrid = 0x00 ∷ (0x00 ∷ (0x5E ∷ (0x00 ∷ (0x01 ∷ (vrid ∷ [])))))
 
--- "byte 0 version 2 in the high four bits, type 1 in the low four; VRID; priority; address count n; authentication type 0; A"
+-- "byte 0 version 2 in the high four bits, type 1 in the low four; VRID; priority; address count n;
+-- authentication type 0; A"
 abbrev pub messageStart : ℕ → ℕ → ℕ → List ℕ → List ℕ
-messageStart vrid priority interval addresses = 0x21 ∷ (vrid ∷ (priority ∷ (length addresses / 4 ∷ (0 ∷ (interval ∷ [])))))
+messageStart vrid priority interval addresses =
+    0x21 ∷ (vrid ∷ (priority ∷ (length addresses / 4 ∷ (0 ∷ (interval ∷ [])))))
 
 -- "n addresses of 4 bytes; 8 zero bytes"
 abbrev pub messageEnd : List ℕ → List ℕ
@@ -24,7 +26,8 @@ messageChecksum vrid priority interval addresses =
 
 unfoldable pub messageOf : ℕ → ℕ → ℕ → List ℕ → List ℕ
 messageOf vrid priority interval addresses =
-    withField (messageStart vrid priority interval addresses) (messageChecksum vrid priority interval addresses) (messageEnd addresses)
+    withField (messageStart vrid priority interval addresses) (messageChecksum vrid priority interval addresses)
+    (messageEnd addresses)
 
 -- "20 bytes, service 0, total length 36 + 4n, identification 0, don't-fragment set, offset 0, TTL 255, protocol 112"
 abbrev pub headerStart : List ℕ → List ℕ
@@ -42,7 +45,8 @@ headerOf primary addresses = withField (headerStart addresses) (headerChecksum p
 
 -- the packet that an advertisement is
 unfoldable pub packetOf : ℕ → ℕ → ℕ → ℕ → List ℕ → List ℕ
-packetOf vrid priority interval primary addresses = headerOf primary addresses ++ messageOf vrid priority interval addresses
+packetOf vrid priority interval primary addresses =
+    headerOf primary addresses ++ messageOf vrid priority interval addresses
 
 -- "Ethernet: to 01:00:5E:00:00:12, from 00:00:5E:00:01:VRID, type 0x0800"
 abbrev pub ethernetOf : ℕ → List ℕ

@@ -1,6 +1,5 @@
 -- Judging a packet: the first of refusals 1 to 8, or the fields of an accepted packet.
 use Prim.Native.Nat.{ℕ, _+_}
-use mathlib.Core.Path.{_≡_}
 use mathlib.Core.List.{List, _++_}
 use mathlib.Core.Bool.{cond}
 use lib.Dec.{eqb}

@@ -1,5 +1,5 @@
 -- The IPv4 header of a packet, and refusals 1 to 4 (01, 'Refusal numbers').
-use Prim.Native.Nat.{ℕ, _+_, _-_, _*_, _/_, _%_}
+use Prim.Native.Nat.{ℕ, _-_, _*_, _/_, _%_}
 use mathlib.Core.List.{List, [], _∷_}
 use mathlib.Core.Bool.{Bool, not, _||_}
 use lib.Dec.{ltb, eqb}
@@ -15,8 +15,9 @@ headerLength packet = 4 * (byteAt packet 0 % 16)
 abbrev pub totalLength : List ℕ → ℕ
 totalLength packet = wordAt packet 2
 
--- the causes of refusal 1 in 01's order, each with its place: "fewer than 20 bytes; IP version not 4; header length field under 5;
--- header longer than the bytes given; total length below the header or above the bytes given"
+-- the causes of refusal 1 in 01's order, each with its place: "fewer than 20 bytes; IP version not 4;
+-- header length field under 5; header longer than the bytes given;
+-- total length below the header or above the bytes given"
 abbrev pub causes : List ℕ → List Check
 causes packet =
     (1, ltb (length packet) 20)

@@ -26,7 +26,8 @@ FirstThatFails =
     × Passes before × (check .1 ≡ true) × (check .0 ≡ refusalOf packet)
 
 -- "each advertisement we write reads back as the fields it was written from": where writing answers a frame of k bytes,
--- the frame less its 14 Ethernet bytes is accepted with these fields, and the addresses stand where the list is said to be
+-- the frame less its 14 Ethernet bytes is accepted with these fields,
+-- and the addresses stand where the list is said to be
 abbrev pub RoundTrip : Type 0
 RoundTrip =
     (vrid priority interval primary k : ℕ) (addresses before after : List ℕ)

@@ -13,7 +13,8 @@ use Rattle.wire.specs.Arp.{arpOf}
 
 -- "17 address bytes not a multiple of 4, none, or above 64"
 unfoldable pub addressBytesWrong : List ℕ → Bool
-addressBytesWrong addresses = not (eqb (length addresses % 4) 0) || eqb (length addresses) 0 || ltb 64 (length addresses)
+addressBytesWrong addresses =
+    not (eqb (length addresses % 4) 0) || eqb (length addresses) 0 || ltb 64 (length addresses)
 
 -- "Direct writing from C checks 14, 16, 17, 22 and allows priority 0"
 abbrev pub advertisementChecks : ℕ → ℕ → List ℕ → ℕ → List Check
@@ -65,4 +66,5 @@ AdvertisementWritten vrid priority interval primary addresses before answer afte
 
 -- writing a gratuitous ARP frame of 42 bytes
 abbrev pub ArpWritten : ℕ → ℕ → List ℕ → Written → List ℕ → Type 0
-ArpWritten vrid address before answer after = Wrote (arpRefusal vrid (length before)) 42 (arpOf vrid address) before answer after
+ArpWritten vrid address before answer after =
+    Wrote (arpRefusal vrid (length before)) 42 (arpOf vrid address) before answer after

@@ -1,4 +1,5 @@
 // The advertisement frame: Ethernet, IPv4 header and VRRP message.
+use crate::addresses::address_bytes_wrong;
 use crate::bytes::high;
 use crate::bytes::lowest;
 use crate::bytes::second;
@@ -139,23 +140,16 @@ pub fn put_advertisement(
 fn advertisement_refusal(vrid: u8, interval: u8, addresses: &[u8], room: usize) -> u32
     ensures { λ r. ⌜ r ≡ advertisementRefusal vrid interval (now (addresses .entry)) room ⌝ }
 {
-    let given = addresses.len();
     if vrid == 0 {
         return 14;
     }
     if interval == 0 {
         return 16;
     }
-    if given % 4 != 0 {
+    if address_bytes_wrong(addresses) {
         return 17;
     }
-    if given == 0 {
-        return 17;
-    }
-    if 64 < given {
-        return 17;
-    }
-    if room < 50 + given {
+    if room < 50 + addresses.len() {
         return 22;
     }
     0

@@ -6,7 +6,7 @@ use mathlib.Core.List.{List, [], _∷_, _++_}
 use lib.ListN.{take, drop, replicate}
 use Rattle.wire.specs.Frame.{headerOf, messageOf}
 use Rattle.router.specs.declared.record.State.{State}
-use Rattle.router.specs.declared.record.State.the-variants.{Initialize, Backup, Master}
+use Rattle.router.specs.declared.record.State.the-variants.{Backup, Master}
 use Rattle.router.specs.declared.record.Router.{Router}
 use Rattle.router.specs.declared.step.Event.the-variants.{Packet}
 use Rattle.router.specs.declared.step.Outcome.{Outcome}

@@ -1,20 +1,22 @@
--- `sums::plain_total` meets its contract. The loop's invariant: the sum so far and the total of what is left make the whole.
+-- `sums::plain_total` meets its contract.
+-- The loop's invariant: the sum so far and the total of what is left make the whole.
 -- Assumes nothing.
 use Prim.Native.Nat.{_+_, _-_, _*_, _/_, _≤_}
-use mathlib.Core.Path.{_≡_, refl, ap, _∙_}
+use mathlib.Core.Path.{_≡_, refl}
 use native.Mathlib.Nat.{zero-add}
 use native.Mathlib.Omega.{arith}
 use borrow.Author.Needs.{needs}
-use lib.ListN.{length, drop, drop-of-length-le}
+use lib.ListN.{length, drop}
 use denote.Ref.{now}
 use Rattle.sums.specs.Total.{total}
-use Rattle.sums.proofs.Laws.{total-none, total-drop}
+use Rattle.sums.proofs.Laws.{total-past, total-drop}
 use Rattle.sums.proofs.plain_total.Statement.{statement}
 use Rattle.sums.proofs.plain_total.Tie as tie
 
 abbrev Inv-loop : tie.InvT-loop
 Inv-loop bytes numbers sum₀ k₀ sum k =
-    (numbers ≡ length bytes / 4) × (k ≤ numbers) × (sum + total (drop (4 * k) bytes) ≡ total bytes) × (sum ≤ 4294967295 * k)
+    (numbers ≡ length bytes / 4) × (k ≤ numbers) × (sum + total (drop (4 * k) bytes) ≡ total bytes)
+    × (sum ≤ 4294967295 * k)
 
 abbrev μ-loop : tie.MeasureT-loop
 μ-loop bytes numbers sum₀ k₀ sum k = numbers - k
@@ -63,18 +65,17 @@ loop-less c = omega arith
 
 loop-again : tie.Need-loop-again Inv-loop μ-loop
 loop-again c =
-    let bytes = now (c .before .before .before .before .before .before .before .before .args .bytes) in
-    let k = c .before .before .before .before .before .before .loop .k in
+    let at-loop = c .before .before .before .before .before .before in
+    let bytes = now (at-loop .before .before .args .bytes) in
+    let k = at-loop .loop .k in
     let e : 4 * (k + 1) ≡ 4 * k + 4 = omega arith in
-    (refl, omega arith, rw e (omega (arith, total-drop bytes (4 * k) (omega arith), c .number .ensures)), omega arith)
+    (refl, omega arith, rw e (omega (arith, total-drop bytes (4 * k) (omega arith))), omega arith)
 
 returns : tie.Need-returns Inv-loop μ-loop
 returns c =
-    let bytes = now (c .before .before .before .args .bytes) in
-    let k = c .before .loop .k in
-    let f : length bytes ≤ 4 * k = omega arith in
-    let e : total (drop (4 * k) bytes) ≡ 0 = ap total (drop-of-length-le bytes f) ∙ total-none in
-    (omega arith, omega arith)
+    let at-loop = c .before in
+    let bytes = now (at-loop .before .before .args .bytes) in
+    omega (arith, total-past bytes (4 * at-loop .loop .k) (omega arith))
 
 pub plain-total-spec : {M : Type 1} → statement M
 plain-total-spec =

@@ -1,6 +1,5 @@
 -- `places::layout::state_of` meets its contract.
 -- Assumes nothing.
-use borrow.Author.Needs.{needs}
 use borrow.Author.Tests.{eq-eqb, ne-eqb}
 use Rattle.places.proofs.layout.state_of.Statement.{statement}
 use Rattle.places.proofs.layout.state_of.Tie as tie

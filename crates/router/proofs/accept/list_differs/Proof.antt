@@ -1,6 +1,5 @@
 -- `router::accept::list_differs` meets its contract.
 -- Assumes nothing.
-use borrow.Author.Needs.{needs}
 use borrow.Author.Tests.{eq-eqb, ne-eqb}
 use Rattle.router.proofs.accept.list_differs.Statement.{statement}
 use Rattle.router.proofs.accept.list_differs.Tie as tie

@@ -1,8 +1,8 @@
 -- `router::clock::clock` meets its contract: by the state.
 -- Assumes nothing.
-use mathlib.Core.Path.{sym, ap, _∙_}
+use mathlib.Core.Path.{_∙_}
 use borrow.Author.Needs.{needs}
-use Rattle.router.specs.Clock.{tickedIn, tickedOf}
+use Rattle.router.specs.Clock.{tickedOf}
 use Rattle.router.proofs.clock.clock.Statement.{statement}
 use Rattle.router.proofs.clock.clock.Tie as tie
 

@@ -1,6 +1,5 @@
 -- `router::clock::run` meets its contract: the timer falls, or fires.
 -- Assumes nothing.
-use mathlib.Core.Path.{_∙_}
 use borrow.Author.Needs.{needs}
 use borrow.Author.Tests.{lt-ltb, le-ltb}
 use Rattle.router.proofs.clock.run.Statement.{statement}

@@ -1,6 +1,5 @@
 -- `table::lists::put_list` meets its contract.
 -- Assumes nothing.
-use mathlib.Core.Path.{_∙_}
 use borrow.Author.Needs.{needs}
 use Rattle.table.specs.Lists.{setList}
 use Rattle.table.proofs.lists.put_list.Statement.{statement}

@@ -1,6 +1,5 @@
 -- `wire::addresses::address_bytes_wrong` meets its contract: the three tests in turn.
 -- Assumes nothing.
-use borrow.Author.Needs.{needs}
 use borrow.Author.Tests.{eq-eqb, ne-eqb}
 use Rattle.wire.specs.Writing.{addressBytesWrong}
 use Rattle.wire.proofs.addresses.address_bytes_wrong.Statement.{statement}

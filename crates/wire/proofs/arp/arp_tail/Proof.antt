@@ -1,7 +1,9 @@
 -- `wire::arp::arp_tail` meets its contract: each byte is the frame's.
 -- Assumes nothing.
 use mathlib.Core.Path.{refl}
+use native.Mathlib.Omega.{arith}
 use borrow.Author.Needs.{needs}
+use Rattle.wire.proofs.SameBytes.{same-bytes}
 use Rattle.wire.proofs.arp.arp_tail.Statement.{statement}
 use Rattle.wire.proofs.arp.arp_tail.Tie as tie
 
@@ -18,10 +20,7 @@ lowest-requires : tie.Need-lowest-requires
 lowest-requires c κs = search needs
 
 returns : tie.Need-returns
-returns c = (
-  rw (c .lowest .ensures, c .before .third .ensures, c .before .before .second .ensures, c .before .before .before .top .ensures),
-  refl,
-)
+returns c = (same-bytes _ _ (omega arith), refl)
 
 pub arp-tail-spec : {M : Type 1} → statement M
 arp-tail-spec =

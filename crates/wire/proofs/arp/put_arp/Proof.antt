@@ -1,13 +1,8 @@
 -- `wire::arp::put_arp` meets its contract: head and tail stand one behind the other.
 -- Assumes nothing.
-use mathlib.Core.Path.{_≡_, refl, ap, _∙_}
-use mathlib.Core.List.{List, [], _++_}
-use Prim.Native.Nat.{ℕ}
+use native.Mathlib.Omega.{arith}
 use borrow.Author.Needs.{needs}
-use denote.Ref.{now}
-use Rattle.wire.specs.Arp.{arpOf}
-use Rattle.wire.specs.Writing.{over}
-use Rattle.wire.proofs.Pasting.{put-behind}
+use Rattle.wire.proofs.Pasting.{nothing, put-next, frame-stands, arp-parts}
 use Rattle.wire.proofs.arp.put_arp.Statement.{statement}
 use Rattle.wire.proofs.arp.put_arp.Tie as tie
 
@@ -33,21 +28,16 @@ same-length : tie.Need-same-length
 same-length c = search needs
 
 returns : tie.Need-returns
-unfolding arpOf
 returns c =
     let at-put2 = c .before .before in
     let at-put = at-put2 .before .before .before .before .before in
     let at-tail = at-put .before .before .before in
     let at-head = at-tail .before in
-    let a = at-head .before .before .args in
-    let room = now (a .room) in
-    let head = at-head .arp-head .result in
-    let tail = at-tail .arp-tail .result in
-    let first = put-behind [] head room room _ 0 refl refl (at-put .put .ensures) in
-    let both = put-behind head tail room _ _ 22 first (at-head .arp-head .ensures .1) (at-put2 .put2 .ensures) in
-    let bytes : head ++ tail ≡ arpOf (a .vrid) (a .address) =
-    rw (at-head .arp-head .ensures .0, at-tail .arp-tail .ensures .0) in
-    both ∙ ap (λ (x : List ℕ). over x room) bytes
+    let h = at-head .arp-head .ensures in
+    let t = at-tail .arp-tail .ensures in
+    let head = put-next (at-head .arp-head .result) 22 nothing (at-put .put .ensures) (omega arith) in
+    let both = put-next (at-tail .arp-tail .result) 42 head (at-put2 .put2 .ensures) (omega arith) in
+    frame-stands both (arp-parts _ _ _ _ (h .0) (t .0))
 
 pub put-arp-spec : {M : Type 1} → statement M
 put-arp-spec =

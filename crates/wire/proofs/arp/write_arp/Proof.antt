@@ -1,6 +1,6 @@
 -- `wire::arp::write_arp` meets its contract: one of the three ends of writing.
 -- Assumes nothing.
-use mathlib.Core.Path.{_≡_, sym, _∙_}
+use mathlib.Core.Path.{sym, _∙_}
 use borrow.Author.Needs.{needs}
 use denote.Ref.{now}
 use lib.ListN.{length}

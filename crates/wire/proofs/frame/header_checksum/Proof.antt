@@ -1,10 +1,7 @@
 -- `wire::frame::header_checksum` meets its contract: the numbers of the header, summed and folded.
 -- Assumes nothing.
-use mathlib.Core.Path.{ap, _∙_}
-use Prim.Native.Nat.{ℕ, _-_}
 use native.Mathlib.Omega.{arith}
 use borrow.Author.Needs.{needs}
-use denote.Ref.{now}
 use Rattle.wire.proofs.Checksums.{header-sum}
 use Rattle.wire.proofs.frame.header_checksum.Statement.{statement}
 use Rattle.wire.proofs.frame.header_checksum.Tie as tie
@@ -34,10 +31,7 @@ sub-result : tie.Need-sub-result
 sub-result c = search needs
 
 returns : tie.Need-returns
-returns c =
-    let a = c .before .before .args in
-    ap (λ (x : ℕ). 65535 - x) (c .fold .ensures .0)
-    ∙ header-sum (a .primary) (now (a .addresses)) (omega arith) (omega arith) _ (omega arith)
+returns c = header-sum _ _ (omega arith) (omega arith) _ _ (c .fold .ensures .0) (omega arith)
 
 pub header-checksum-spec : {M : Type 1} → statement M
 header-checksum-spec =

@@ -4,6 +4,7 @@ use mathlib.Core.Path.{refl}
 use native.Mathlib.Omega.{arith}
 use borrow.Author.Needs.{needs}
 use Rattle.wire.specs.Frame.{headerChecksum, headerOf}
+use Rattle.wire.proofs.SameBytes.{same-bytes}
 use Rattle.wire.proofs.frame.ip_header.Statement.{statement}
 use Rattle.wire.proofs.frame.ip_header.Tie as tie
 
@@ -24,7 +25,7 @@ lowest-requires c κs = search needs
 
 high-requires-2 : tie.Need-high-requires-2
 unfolding headerChecksum
-high-requires-2 c κs = omega (arith, c .before .before .header-checksum .ensures)
+high-requires-2 c κs = omega arith
 
 lowest-requires-2 : tie.Need-lowest-requires-2
 lowest-requires-2 c κs = search needs
@@ -43,23 +44,7 @@ lowest-requires-3 c κs = search needs
 
 returns : tie.Need-returns
 unfolding headerOf
-returns c =
-    let at-top = c .before .before .before in
-    let at-high2 = at-top .before .before in
-    let at-high = at-high2 .before .before in (
-      rw (
-        c .lowest3 .ensures,
-        c .before .third .ensures,
-        c .before .before .second .ensures,
-        at-top .top .ensures,
-        at-top .before .lowest2 .ensures,
-        at-high2 .high2 .ensures,
-        at-high2 .before .lowest .ensures,
-        at-high .high .ensures,
-        at-high .before .header-checksum .ensures,
-      ),
-      refl,
-    )
+returns c = (same-bytes _ _ (omega arith), refl)
 
 pub ip-header-spec : {M : Type 1} → statement M
 ip-header-spec =

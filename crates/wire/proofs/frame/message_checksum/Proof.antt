@@ -1,11 +1,7 @@
 -- `wire::frame::message_checksum` meets its contract: the numbers of the message, summed and folded.
 -- Assumes nothing.
-use mathlib.Core.Path.{ap, _∙_}
-use Prim.Native.Nat.{ℕ, _-_, _/_}
 use native.Mathlib.Omega.{arith}
 use borrow.Author.Needs.{needs}
-use denote.Ref.{now}
-use lib.ListN.{length}
 use Rattle.wire.proofs.Checksums.{message-sum}
 use Rattle.wire.proofs.frame.message_checksum.Statement.{statement}
 use Rattle.wire.proofs.frame.message_checksum.Tie as tie
@@ -42,13 +38,8 @@ sub-result c = search needs
 
 returns : tie.Need-returns
 returns c =
-    let a = c .before .before .before .before .before .args in
-    let addresses = now (a .addresses) in
-    ap (λ (x : ℕ). 65535 - x) (c .fold .ensures .0)
-    ∙ message-sum (a .vrid) (a .priority) (a .interval) addresses (length addresses / 4) _
-    (omega arith) (omega arith) (omega arith) (omega arith) (omega arith)
-    (λ i. c .before .before .before .before .shared-slice-known .given i .fits)
-    (omega arith)
+    let known = c .before .before .before .before .shared-slice-known in
+    message-sum _ _ _ _ _ _ (omega arith) (λ i. known .given i .fits) (c .fold .ensures .0) (omega arith)
 
 pub message-checksum-spec : {M : Type 1} → statement M
 message-checksum-spec =

@@ -15,7 +15,7 @@ message-checksum-requires c κs = search needs
 
 high-requires : tie.Need-high-requires
 unfolding messageChecksum
-high-requires c κs = omega (arith, c .message-checksum .ensures)
+high-requires c κs = omega arith
 
 lowest-requires : tie.Need-lowest-requires
 lowest-requires c κs = search needs

@@ -1,15 +1,12 @@
 -- `wire::frame::put_advertisement` meets its contract: the parts of the frame stand one behind another.
 -- Assumes nothing.
-use mathlib.Core.Path.{_≡_, refl, sym, ap, _∙_}
-use mathlib.Core.List.{List, [], _++_}
-use Prim.Native.Nat.{ℕ, _+_}
+use mathlib.Core.Path.{refl}
+use Prim.Native.Nat.{_+_}
 use native.Mathlib.Omega.{arith}
 use borrow.Author.Needs.{needs}
 use denote.Ref.{now}
-use lib.ListN.{length, replicate, length-append}
-use Rattle.wire.specs.Frame.{messageOf, packetOf, frameOf}
-use Rattle.wire.specs.Writing.{over}
-use Rattle.wire.proofs.Pasting.{put-behind, five-parts}
+use lib.ListN.{length, replicate}
+use Rattle.wire.proofs.Pasting.{nothing, put-next, frame-stands, frame-parts}
 use Rattle.wire.proofs.frame.put_advertisement.Statement.{statement}
 use Rattle.wire.proofs.frame.put_advertisement.Tie as tie
 
@@ -44,8 +41,7 @@ put-requires-4 : tie.Need-put-requires-4
 put-requires-4 c κs = search needs
 
 add-put : tie.Need-add-put
-add-put c =
-    omega (arith, c .before .before .before .before .before .before .before .before .before .before .before .before .before .before .before .before .before .before .before .before .before .before .before .before .before .pre)
+add-put c = omega (arith, c .before .before .before)
 
 slice-aggregate-put-4 : tie.Need-slice-aggregate-put-4
 slice-aggregate-put-4 c = search needs
@@ -57,7 +53,6 @@ same-length : tie.Need-same-length
 same-length c = search needs
 
 returns : tie.Need-returns
-unfolding packetOf frameOf
 returns c =
     let at-put5 = c .before .before in
     let at-put4 = at-put5 .before .before .before .before .before in
@@ -67,29 +62,16 @@ returns c =
     let at-message = at-put .before .before .before in
     let at-header = at-message .before in
     let at-ethernet = at-header .before in
-    let a = at-ethernet .before .before .before .args in
-    let room = now (a .room) in
-    let addresses = now (a .addresses) in
-    let zeros : List ℕ = replicate 8 0 in
-    let ethernet = at-ethernet .ethernet-head .result in
-    let header = at-header .ip-header .result in
-    let message = at-message .message-head .result in
+    let addresses = now (at-ethernet .before .before .before .args .addresses) in
     let e = at-ethernet .ethernet-head .ensures in
     let h = at-header .ip-header .ensures in
     let m = at-message .message-head .ensures in
-    let two = length-append ethernet header in
-    let three = length-append (ethernet ++ header) message in
-    let four = length-append ((ethernet ++ header) ++ message) addresses in
-    let first = put-behind [] ethernet room room _ 0 refl refl (at-put .put .ensures) in
-    let second = put-behind ethernet header room _ _ 14 first (e .1) (at-put2 .put2 .ensures) in
-    let third = put-behind (ethernet ++ header) message room _ _ 34 second (omega arith) (at-put3 .put3 .ensures) in
-    let fourth = put-behind ((ethernet ++ header) ++ message) addresses room _ _ 42 third (omega arith) (at-put4 .put4 .ensures) in
-    let fifth =
-    put-behind (((ethernet ++ header) ++ message) ++ addresses) zeros room _ _ (42 + length addresses) fourth (omega arith)
-    (at-put5 .put5 .ensures) in
-    fifth
-    ∙ ap (λ (x : List ℕ). over x room) (five-parts ethernet header message addresses zeros)
-    ∙ rw (e .0, h .0, m .0)
+    let one = put-next (at-ethernet .ethernet-head .result) 14 nothing (at-put .put .ensures) (omega arith) in
+    let two = put-next (at-header .ip-header .result) 34 one (at-put2 .put2 .ensures) (omega arith) in
+    let three = put-next (at-message .message-head .result) 42 two (at-put3 .put3 .ensures) (omega arith) in
+    let four = put-next addresses (42 + length addresses) three (at-put4 .put4 .ensures) refl in
+    let all = put-next (replicate 8 0) _ four (at-put5 .put5 .ensures) refl in
+    frame-stands all (frame-parts _ _ _ _ _ _ _ _ (e .0) (h .0) (m .0))
 
 pub put-advertisement-spec : {M : Type 1} → statement M
 put-advertisement-spec =

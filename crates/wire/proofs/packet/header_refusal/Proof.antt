@@ -1,66 +1,45 @@
--- `wire::packet::header_refusal` meets its contract: each check's answer in turn.
+-- `wire::packet::header_refusal` meets its contract: the tests before each `return` say which check fails first.
 -- Assumes nothing.
-use mathlib.Core.Path.{_≡_, ap, _∙_, refl, sym}
-use mathlib.Core.Bool.{true, false}
-use Prim.Native.Nat.{ℕ}
 use native.Mathlib.Omega.{arith}
 use borrow.Author.Needs.{needs}
-use borrow.Author.Tests.{eq-eqb, ne-eqb}
 use denote.Ref.{now}
-use Rattle.wire.specs.Reading.{byteAt}
-use Rattle.wire.specs.Packet.{causeOf, headerSumWrong, notOurs}
-use Rattle.wire.proofs.Readable.{readable}
+use Rattle.wire.specs.Packet.{headerChecks}
+use Rattle.wire.proofs.Tested.{tests}
+use Rattle.wire.proofs.Checks.{first}
+use Rattle.wire.proofs.Readable.{Readable, readable}
 use Rattle.wire.proofs.packet.header_refusal.Statement.{statement}
 use Rattle.wire.proofs.packet.header_refusal.Tie as tie
+
+-- behind the first test the packet is readable
+readable-at : (c : tie.Else1) → Readable (now (c .before .before .before .args .packet))
+readable-at c = readable _ (omega arith)
 
 cause-requires : tie.Need-cause-requires
 cause-requires c κs = search needs
 
 returns : tie.Need-returns
-returns c =
-    let packet = now (c .before .before .before .args .packet) in
-    simp (ne-eqb (causeOf packet) 0 (omega arith))
+returns c = first _ (headerChecks _) (omega tests)
 
 header-sum-wrong-requires : tie.Need-header-sum-wrong-requires
 header-sum-wrong-requires c κs = search needs
 
 returns-2 : tie.Need-returns-2
-returns-2 c =
-    let packet = now (c .before .before .before .before .before .args .packet) in
-    let s : headerSumWrong packet ≡ true = sym (c .before .header-sum-wrong .ensures) ∙ c .if2 .taken in
-    simp (eq-eqb (causeOf packet) 0 (omega arith), s)
+returns-2 c = first _ (headerChecks _) (omega tests)
 
 not-ours-requires : tie.Need-not-ours-requires
-not-ours-requires c κs =
-    let packet = now (c .before .before .before .before .before .args .packet) in
-    readable packet (omega arith) .given
+not-ours-requires c κs = readable-at (c .before .before) .given
 
 returns-3 : tie.Need-returns-3
-returns-3 c =
-    let packet = now (c .before .before .before .before .before .before .before .args .packet) in
-    let s : headerSumWrong packet ≡ false = sym (c .before .before .before .header-sum-wrong .ensures) ∙ c .before .before .if2 .left in
-    let o : notOurs packet ≡ true = sym (c .before .not-ours .ensures) ∙ c .if3 .taken in
-    simp (eq-eqb (causeOf packet) 0 (omega arith), s, o)
+returns-3 c = first _ (headerChecks _) (omega tests)
 
 shared-slice-read-if4 : tie.Need-shared-slice-read-if4
-shared-slice-read-if4 c =
-    let packet = now (c .before .before .before .before .before .before .before .before .args .packet) in
-    let r = readable packet (omega arith) in
-    omega arith
+shared-slice-read-if4 c = omega (arith, readable-at (c .before .before .before .before .before))
 
 returns-4 : tie.Need-returns-4
-returns-4 c =
-    let packet = now (c .before .before .before .before .before .before .before .before .before .args .packet) in
-    let s : headerSumWrong packet ≡ false = sym (c .before .before .before .before .before .header-sum-wrong .ensures) ∙ c .before .before .before .before .if2 .left in
-    let o : notOurs packet ≡ false = sym (c .before .before .before .not-ours .ensures) ∙ c .before .before .if3 .left in
-    simp (eq-eqb (causeOf packet) 0 (omega arith), s, o, ne-eqb (byteAt packet 8) 255 (c .if4 .taken))
+returns-4 c = first _ (headerChecks _) (omega tests)
 
 returns-5 : tie.Need-returns-5
-returns-5 c =
-    let packet = now (c .before .before .before .before .before .before .before .before .before .args .packet) in
-    let s : headerSumWrong packet ≡ false = sym (c .before .before .before .before .before .header-sum-wrong .ensures) ∙ c .before .before .before .before .if2 .left in
-    let o : notOurs packet ≡ false = sym (c .before .before .before .not-ours .ensures) ∙ c .before .before .if3 .left in
-    simp (eq-eqb (causeOf packet) 0 (omega arith), s, o, eq-eqb (byteAt packet 8) 255 (c .if4 .left))
+returns-5 c = first _ (headerChecks _) (omega tests)
 
 pub header-refusal-spec : {M : Type 1} → statement M
 header-refusal-spec =

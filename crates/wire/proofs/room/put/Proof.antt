@@ -39,11 +39,9 @@ loop-again : tie.Need-loop-again Inv-loop μ-loop
 loop-again c =
     let at-loop = c .before .before in
     let a = at-loop .before .args in
-    let k = at-loop .loop .k in (
-      rw (at-loop .loop .inv .0, add-one k, paste-suc (now (a .room)) (a .at) (now (a .bytes)) k 0 (omega arith) (omega arith)),
-      search needs,
-      simp length-set (at-loop .loop .inv .2),
-    )
+    let k = at-loop .loop .k in
+    let one-more = paste-suc (now (a .room)) (a .at) (now (a .bytes)) k 0 (omega arith) (omega arith) in
+    (rw (at-loop .loop .inv .0, add-one k, one-more), search needs, simp length-set (at-loop .loop .inv .2))
 
 same-length : tie.Need-same-length Inv-loop μ-loop
 same-length c = search needs
