@@ -17,7 +17,7 @@ use Rattle.places.specs.Place.{recordAt, setRecord, placeOf}
 use Rattle.table.specs.Lists.{setList}
 use Rattle.table.specs.Result.{routerPlace}
 use Rattle.table.specs.Configuring.{isFound, newRouter, freed, configureChecks, configureRefusal, Configured}
-use Rattle.table.specs.Configuring.{removeRefusal, Removed}
+use Rattle.table.specs.Configuring.{removeChecks, removeRefusal, Removed}
 
 module _ (words lists : List ℕ) (v priority interval : ℕ) (preempt : Bool) (addresses : List ℕ) where
   pub configure-refused : (number : ℕ) → number ≡ configureRefusal words v priority interval addresses → ¬ (number ≡ 0)
@@ -65,3 +65,12 @@ module _ (words : List ℕ) (v : ℕ) where
   remove-done p after e n w =
       let t = eq-eqb (stateNumber (recordAt words p .state)) 0 n in
       record { answer-is = rw (e, t); words-are = rw (e, t, w) }
+
+  -- where nothing is refused, the router is in the table
+  pub never-unknown : removeRefusal words v ≡ 0 → routerPlace words v ≡ Nothing → ⊥
+  unfolding removeRefusal
+  never-unknown e f =
+      let p = passed (removeChecks words v) (omega arith) e in
+      let t = not-false (isFound (routerPlace words v)) (p .0) in
+      let s = sym (ap isFound f) ∙ t in
+      let z : _≡_ {A = ℕ} 0 1 = cc in omega arith

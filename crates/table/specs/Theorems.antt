@@ -4,13 +4,17 @@ use mathlib.Core.Path.{_≡_}
 use mathlib.Core.List.{List}
 use mathlib.Core.Bool.{Bool}
 use lib.ListN.{length, getD}
+use Rattle.wire.specs.declared.judging.Fields.{Fields}
+use Rattle.wire.specs.declared.judging.Judged.the-variants.{Accepted}
+use Rattle.wire.specs.Judging.{judgedOf}
 use Rattle.router.specs.declared.step.Event.{Event}
 use Rattle.places.specs.declared.place.Found.the-variants.{At}
 use Rattle.places.specs.Place.{baseOf, recordAt, placeOf}
 use Rattle.table.specs.declared.answer.Answered.{Answered}
 use Rattle.table.specs.Result.{Result, Leaves, routerPlace}
-use Rattle.table.specs.Configuring.{Configured, Removed}
+use Rattle.table.specs.Configuring.{Configured, configuredWords, Removed, removedWords}
 use Rattle.table.specs.Events.{happenedOf, clockedOf}
+use Rattle.table.specs.Packets.{heardOf}
 
 -- two outcomes that the promise of a call allows are equal: startup, shutdown, clock and packet
 abbrev pub OneResult : Type 0
@@ -45,6 +49,26 @@ ClockElsewhere =
     (words lists : List ℕ) (vrid place ticks : ℕ) (room : List ℕ) → length words ≡ 4096
     → (routerPlace words vrid ≡ At place → ⊥)
     → recordAt (clockedOf words lists vrid ticks room .words) place ≡ recordAt words place
+
+-- and a packet: every place but that of the VRID it carries
+abbrev pub PacketElsewhere : Type 0
+PacketElsewhere =
+    (words lists bytes room : List ℕ) (place : ℕ) → length words ≡ 4096
+    → ((fields : Fields) → judgedOf bytes ≡ Accepted fields → routerPlace words (fields .vrid) ≡ At place → ⊥)
+    → recordAt (heardOf words lists bytes room .words) place ≡ recordAt words place
+
+-- and configuring: every place but the free one that it takes
+abbrev pub ConfigureElsewhere : Type 0
+ConfigureElsewhere =
+    (words : List ℕ) (vrid priority interval : ℕ) (preempt : Bool) (addresses : List ℕ) (place : ℕ) → length words ≡ 4096
+    → (placeOf words 0 ≡ At place → ⊥)
+    → recordAt (configuredWords words vrid priority interval preempt addresses) place ≡ recordAt words place
+
+-- and removing
+abbrev pub RemoveElsewhere : Type 0
+RemoveElsewhere =
+    (words : List ℕ) (vrid place : ℕ) → length words ≡ 4096 → (routerPlace words vrid ≡ At place → ⊥)
+    → recordAt (removedWords words vrid) place ≡ recordAt words place
 
 -- "Configuring takes the lowest free place": free is a place whose first word is 0
 abbrev pub LowestFreePlace : Type 0
