@@ -7,32 +7,40 @@ use native.Mathlib.Nat.{add-zero}
 use native.Mathlib.Omega.{arith}
 use lib.Dec.{ltb}
 use lib.ListN.{length, getD, take, drop, length-set}
-use lib.Seq.{getD-take, getD-drop, getD-set-other, drop-set-lt}
+use lib.Seq.{getD-take, getD-drop, getD-set-same, getD-set-other, drop-set-lt}
 use Rattle.router.specs.declared.record.Router.{Router}
+use Rattle.router.specs.Step.{counted}
 use Rattle.places.specs.Layout.{decodeOf, encodeOf}
-use Rattle.places.specs.Place.{baseOf, recordAt, setRecord, countRefusal}
-use Rattle.places.proofs.Parts.{part-same}
+use Rattle.places.specs.Place.{baseOf, recordAt, setRecord, refusalCount, countRefusal}
+use Rattle.places.proofs.Parts.{part-same, part-before}
 use Rattle.places.proofs.Records.{other-part, encode-length}
 
-part-first : (words : List ℕ) (q : ℕ) → getD (take 16 (drop (baseOf q) words)) 0 0 ≡ getD words (baseOf q) 0
-part-first words q =
-    getD-take 16 (drop (baseOf q) words) 0 0 (omega arith)
-    ∙ getD-drop (baseOf q) words 0 0
-    ∙ ap (λ (k : ℕ). getD words k 0) (add-zero (baseOf q))
+part-first : (words : List ℕ) (a n : ℕ) → 0 < n → getD (take n (drop a words)) 0 0 ≡ getD words a 0
+part-first words a n h =
+    getD-take n (drop a words) 0 0 h ∙ getD-drop a words 0 0 ∙ ap (λ (k : ℕ). getD words k 0) (add-zero a)
 
 module _ (words : List ℕ) (p : ℕ) (r : Router) (below : p < 255) (long : length words ≡ 4096) where
   pub first-same : getD (setRecord words p r) (baseOf p) 0 ≡ r .vrid
   unfolding setRecord encodeOf
   first-same =
-      sym (part-first (setRecord words p r) p)
+      sym (part-first (setRecord words p r) (baseOf p) 16 (omega arith))
       ∙ ap (λ (s : List ℕ). getD s 0 0) (part-same words (encodeOf r) (baseOf p) 16 (omega arith) (encode-length r))
 
   pub first-other : (q : ℕ) → (q ≡ p → ⊥) → getD (setRecord words p r) (baseOf q) 0 ≡ getD words (baseOf q) 0
   unfolding setRecord
   first-other q n =
-      sym (part-first (setRecord words p r) q)
+      sym (part-first (setRecord words p r) (baseOf q) 16 (omega arith))
       ∙ ap (λ (s : List ℕ). getD s 0 0) (other-part words p r below long (ltb q p) q refl n)
-      ∙ part-first words q
+      ∙ part-first words (baseOf q) 16 (omega arith)
+
+  -- storing a record leaves the interface's counts as they were
+  pub store-count : (number : ℕ) → number ≤ 9 → refusalCount (setRecord words p r) number ≡ refusalCount words number
+  unfolding setRecord refusalCount
+  store-count number small =
+      sym (part-first (setRecord words p r) number 1 (omega arith))
+      ∙ ap (λ (s : List ℕ). getD s 0 0)
+      (part-before words (encodeOf r) (baseOf p) 16 number 1 (omega arith) (encode-length r) (omega arith))
+      ∙ part-first words number 1 (omega arith)
 
 -- counting a refusal leaves every place as it was
 module _ (words : List ℕ) (number : ℕ) (small : number ≤ 9) where
@@ -47,3 +55,11 @@ module _ (words : List ℕ) (number : ℕ) (small : number ≤ 9) where
   pub count-length : length (countRefusal words number) ≡ length words
   unfolding countRefusal
   count-length = length-set words number _
+
+  pub count-same : length words ≡ 4096 → refusalCount (countRefusal words number) number ≡ counted (refusalCount words number)
+  unfolding refusalCount countRefusal
+  count-same long = getD-set-same words number _ 0 (omega arith)
+
+  pub count-other : (k : ℕ) → (k ≡ number → ⊥) → refusalCount (countRefusal words number) k ≡ refusalCount words k
+  unfolding refusalCount countRefusal
+  count-other k n = getD-set-other words number k _ 0 n

@@ -2,13 +2,13 @@
 -- Assumes nothing.
 use mathlib.Core.Path.{_≡_, refl, sym, ap, _∙_}
 use mathlib.Core.List.{List, _∷_}
-use Prim.Native.Nat.{ℕ, zero, suc, _+_, _-_, _*_, _<_}
+use Prim.Native.Nat.{ℕ, zero, suc, _+_, _-_, _*_, _≤_, _<_}
 use native.Mathlib.Nat.{suc-add}
 use native.Mathlib.Omega.{arith}
 use lib.ListN.{length, getD, take, drop, replicate, length-replicate, getD-replicate}
 use Rattle.router.specs.declared.record.Router.{Router}
 use Rattle.places.specs.Layout.{decodeOf}
-use Rattle.places.specs.Place.{baseOf, recordAt}
+use Rattle.places.specs.Place.{baseOf, recordAt, refusalCount}
 use Rattle.table.specs.Configuring.{emptyOf, freed}
 use Rattle.table.proofs.Held.{Held}
 
@@ -37,6 +37,12 @@ module _ (primary : ℕ) where
   empty-long : length (emptyOf primary) ≡ 4096
   unfolding emptyOf
   empty-long = ap suc (length-replicate {A = ℕ} 4095 0)
+
+  pub empty-count : (number : ℕ) → 1 ≤ number → number ≤ 9 → refusalCount (emptyOf primary) number ≡ 0
+  unfolding emptyOf refusalCount
+  empty-count number least most =
+      let e : number ≡ suc (number - 1) = omega arith in
+      ap (λ (k : ℕ). getD (primary ∷ zeros 4095) k 0) e ∙ first-zeros 4095 (number - 1) primary (omega arith)
 
   empty-first : (p : ℕ) → p < 255 → getD (emptyOf primary) (baseOf p) 0 ≡ 0
   unfolding emptyOf

@@ -156,7 +156,7 @@ remove-test true words held v e =
     let p = passed (removeChecks words v) (omega arith) none in
     free-held (routerPlace words v) words held v refl (not-false (isFound (routerPlace words v)) (p .0))
 
-call-held : (m : Memory) (call : Call) → Given call → Held (m .words) → Held (called m call .words)
+pub call-held : (m : Memory) (call : Call) → Given call → Held (m .words) → Held (called m call .words)
 unfolding happenedOf clockedOf heardOf
 call-held m (configure v priority interval preempt addresses) g held =
     configure-test (eqb (configureRefusal (m .words) v priority interval addresses) 0) (m .words) held v priority interval preempt
@@ -167,7 +167,7 @@ call-held m (shutdown v room) g held = happened-held (routerPlace (m .words) v) 
 call-held m (clock v d room) g held = clocked-held (routerPlace (m .words) v) (m .words) (m .lists) held v d room refl
 call-held m (packet bytes room) g held = judged-held (judgedOf bytes) (m .words) (m .lists) held bytes room refl
 
-history-held : (m : Memory) (history : List Call) → GivenAll history → Held (m .words) → Held (after m history .words)
+pub history-held : (m : Memory) (history : List Call) → GivenAll history → Held (m .words) → Held (after m history .words)
 history-held m [] g held = held
 history-held m (call ∷ rest) g held = history-held (called m call) rest (g .1) (call-held m call (g .0) held)
 

@@ -8,4 +8,5 @@ pub mod Configures
 pub mod Held
 pub mod Begun
 pub mod Histories
+pub mod Counted
 pub mod Theorems

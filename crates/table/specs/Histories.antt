@@ -1,14 +1,16 @@
 -- Histories of calls from an empty table, and what holds after every one of them.
-use Prim.Native.Nat.{ℕ, _≤_, _<_}
+use Prim.Native.Nat.{ℕ, _+_, _%_, _^_, _≤_, _<_}
 use mathlib.Core.Path.{_≡_}
 use mathlib.Core.List.{List, [], _∷_}
-use mathlib.Core.Bool.{Bool}
+use mathlib.Core.Bool.{Bool, cond}
+use lib.Dec.{eqb}
 use lib.ListN.{getD}
 use Rattle.router.specs.declared.step.Event.the-variants.{Startup, Shutdown}
 use Rattle.router.specs.Timed.{Timed}
 use Rattle.places.specs.Place.{baseOf, recordAt}
+use Rattle.table.specs.Result.{answerNumber}
 use Rattle.table.specs.Configuring.{emptyOf, configuredWords, configuredLists, removedWords}
-use Rattle.table.specs.Events.{happenedOf, clockedOf}
+use Rattle.table.specs.Events.{happenedOf, clockedOf, interfaceCount}
 use Rattle.table.specs.Packets.{heardOf}
 
 -- a call as a host makes it: rooms are bytes, and so are packets
@@ -84,3 +86,25 @@ AfterEveryHistory =
     (primary : ℕ) (lists : List ℕ) (history : List Call) → GivenAll history
     → Unique (after (begun primary lists) history .words)
     × ((p : ℕ) → p < 255 → Sound (after (begun primary lists) history .words) p)
+
+-- 1 where a call is a packet that is answered by this number, else 0
+abbrev pub answeredBy : ℕ → Memory → Call → ℕ
+answeredBy number m (configure vrid priority interval preempt addresses) = 0
+answeredBy number m (remove vrid) = 0
+answeredBy number m (startup vrid room) = 0
+answeredBy number m (shutdown vrid room) = 0
+answeredBy number m (clock vrid ticks room) = 0
+answeredBy number m (packet bytes room) =
+    cond (eqb (answerNumber (heardOf (m .words) (m .lists) bytes room .answer)) number) 1 0
+
+-- how many packets of a history are answered by a number
+abbrev pub refusalsIn : ℕ → Memory → List Call → ℕ
+refusalsIn number m [] = 0
+refusalsIn number m (call ∷ rest) = answeredBy number m call + refusalsIn number (called m call) rest
+
+-- "Per interface: 1 to 9": each is, modulo 2^32, how many packets were so refused since the table was made
+abbrev pub InterfaceCounts : Type 0
+InterfaceCounts =
+    (primary : ℕ) (lists : List ℕ) (history : List Call) → GivenAll history → (number : ℕ) → 1 ≤ number → number ≤ 9
+    → interfaceCount (after (begun primary lists) history .words) number
+    ≡ refusalsIn number (begun primary lists) history % 2 ^ 32
