@@ -1,9 +1,14 @@
 -- A part of a list, after something was pasted into it: there, before it, and behind it.
 -- Assumes nothing.
-use mathlib.Core.Path.{_≡_, sym, ap, _∙_}
+use mathlib.Core.Path.{_≡_, refl, sym, ap, _∙_}
+use mathlib.Core.Logic.{_⊎_, inl, inr, ⊎-elim}
+use mathlib.Core.Bool.{Bool, true, false}
 use mathlib.Core.List.{List, _++_, append-assoc}
-use Prim.Native.Nat.{ℕ, _+_, _-_, _≤_}
+use Prim.Native.Nat.{ℕ, _+_, _-_, _≤_, _<_}
+use native.Mathlib.Nat.{eq-or-lt-of-le}
 use native.Mathlib.Omega.{arith}
+use lib.Dec.{ltb}
+use borrow.Author.Tests.{ltb-true, ltb-false}
 use lib.ListN.{length, take, drop, length-drop, take-append-drop}
 use lib.Seq.{paste, drop-paste, take-at, drop-at, take-append-le, drop-append-le, drop-drop, length-take-le, take-all}
 
@@ -30,7 +35,7 @@ part-before d s b n a m h l o =
     ∙ ap (λ (x : List ℕ). take m (drop a x)) (take-append-drop b d)
 
 -- a part that begins behind it
-pub part-behind : (d s : List ℕ) (b n a m : ℕ) → b + n ≤ length d → length s ≡ n → b + n ≤ a
+part-behind : (d s : List ℕ) (b n a m : ℕ) → b + n ≤ length d → length s ≡ n → b + n ≤ a
     → take m (drop a (paste d b s n)) ≡ take m (drop a d)
 part-behind d s b n a m h l o =
     let e : b + n + (a - (b + n)) ≡ a = omega arith in
@@ -39,3 +44,17 @@ part-behind d s b n a m h l o =
     ∙ ap (λ (x : List ℕ). take m (drop (a - (b + n)) x)) (drop-paste d b s n (omega arith) (omega arith))
     ∙ ap (take m) (drop-drop (a - (b + n)) (b + n) d)
     ∙ ap (λ (k : ℕ). take m (drop k d)) e
+
+-- a part beside it
+pub part-other : (d s : List ℕ) (b n a m : ℕ) → b + n ≤ length d → length s ≡ n → (a + m ≤ b) ⊎ (b + n ≤ a)
+    → take m (drop a (paste d b s n)) ≡ take m (drop a d)
+part-other d s b n a m h l (inl before) = part-before d s b n a m h l before
+part-other d s b n a m h l (inr behind) = part-behind d s b n a m h l behind
+
+-- of two different places, one stands before the other
+apart-test : (t : Bool) (q p : ℕ) → ltb q p ≡ t → (q ≡ p → ⊥) → (q < p) ⊎ (p < q)
+apart-test true q p e n = inl (ltb-true q p e)
+apart-test false q p e n = ⊎-elim (λ y. absurd (n (sym y))) inr (eq-or-lt-of-le (ltb-false q p e))
+
+pub apart : (q p : ℕ) → (q ≡ p → ⊥) → (q < p) ⊎ (p < q)
+apart q p n = apart-test (ltb q p) q p refl n

@@ -1,23 +1,22 @@
 -- What is stored at a place is read back there, and every other place keeps its record.
 -- Assumes nothing.
 use mathlib.Core.Path.{_≡_, refl, sym, ap, _∙_}
-use mathlib.Core.Logic.{⊎-elim}
+use mathlib.Core.Logic.{inl, inr, ⊎-elim}
 use mathlib.Core.List.{List}
 use mathlib.Core.Bool.{Bool, true, false}
 use Prim.Native.Nat.{ℕ, _<_}
-use native.Mathlib.Nat.{mod-eq-of-lt, mod-lt, eq-or-lt-of-le}
+use native.Mathlib.Nat.{mod-eq-of-lt, mod-lt}
 use native.Mathlib.Omega.{arith}
 use lib.ListN.{length, take, drop}
 use lib.Seq.{paste, length-paste}
-use lib.Dec.{eqb, ltb}
-use borrow.Author.Tests.{ltb-true, ltb-false}
+use lib.Dec.{eqb}
 use Rattle.router.specs.declared.record.State.{State}
 use Rattle.router.specs.declared.record.State.the-variants.{Initialize, Backup, Master}
 use Rattle.router.specs.declared.record.Router.{Router}
 use Rattle.router.specs.Step.{stateNumber}
 use Rattle.places.specs.Layout.{flagOf, stateOf, decodeOf, encodeOf}
 use Rattle.places.specs.Place.{baseOf, recordAt, setRecord}
-use Rattle.places.proofs.Parts.{part-same, part-before, part-behind}
+use Rattle.places.proofs.Parts.{part-same, part-other, apart}
 
 -- a record whose bytes are bytes, with at most 16 addresses
 pub record InRange (r : Router) : Type 0 where
@@ -60,17 +59,15 @@ module _ (words : List ℕ) (place : ℕ) (r : Router) (below : place < 255) (lo
   record-same h =
       ap decodeOf (part-same words (encodeOf r) (baseOf place) 16 (omega arith) (encode-length r)) ∙ decode-encode r h
 
-  pub other-part : (t : Bool) (q : ℕ) → ltb q place ≡ t → (q ≡ place → ⊥)
+  pub other-part : (q : ℕ) → (q ≡ place → ⊥)
       → take 16 (drop (baseOf q) (paste words (baseOf place) (encodeOf r) 16)) ≡ take 16 (drop (baseOf q) words)
-  other-part true q e n =
-      part-before words (encodeOf r) (baseOf place) 16 (baseOf q) 16 (omega arith) (encode-length r) (omega (arith, ltb-true q place e))
-  other-part false q e n =
-      let z : place < q = ⊎-elim (λ y. absurd (n (sym y))) (λ y. y) (eq-or-lt-of-le (ltb-false q place e)) in
-      part-behind words (encodeOf r) (baseOf place) 16 (baseOf q) 16 (omega arith) (encode-length r) (omega arith)
+  other-part q n =
+      part-other words (encodeOf r) (baseOf place) 16 (baseOf q) 16 (omega arith) (encode-length r)
+      (⊎-elim (λ x. inl (omega arith)) (λ x. inr (omega arith)) (apart q place n))
 
   pub record-other : (q : ℕ) → (q ≡ place → ⊥) → recordAt (setRecord words place r) q ≡ recordAt words q
   unfolding recordAt setRecord
-  record-other q n = ap decodeOf (other-part (ltb q place) q refl n)
+  record-other q n = ap decodeOf (other-part q n)
 
   pub store-length : length (setRecord words place r) ≡ 4096
   unfolding setRecord

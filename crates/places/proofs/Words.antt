@@ -5,7 +5,6 @@ use mathlib.Core.List.{List}
 use Prim.Native.Nat.{ℕ, _≤_, _<_}
 use native.Mathlib.Nat.{add-zero}
 use native.Mathlib.Omega.{arith}
-use lib.Dec.{ltb}
 use lib.ListN.{length, getD, take, drop, length-set}
 use lib.Seq.{getD-take, getD-drop, getD-set-same, getD-set-other, drop-set-lt}
 use Rattle.router.specs.declared.record.Router.{Router}
@@ -30,7 +29,7 @@ module _ (words : List ℕ) (p : ℕ) (r : Router) (below : p < 255) (long : len
   unfolding setRecord
   first-other q n =
       sym (part-first (setRecord words p r) (baseOf q) 16 (omega arith))
-      ∙ ap (λ (s : List ℕ). getD s 0 0) (other-part words p r below long (ltb q p) q refl n)
+      ∙ ap (λ (s : List ℕ). getD s 0 0) (other-part words p r below long q n)
       ∙ part-first words (baseOf q) 16 (omega arith)
 
   -- storing a record leaves the interface's counts as they were

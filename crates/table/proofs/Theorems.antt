@@ -1,9 +1,10 @@
 -- The theorems that specs/Theorems.antt states.
 -- Assumes nothing.
 use mathlib.Core.Path.{_≡_, refl, sym, ap, _∙_}
+use mathlib.Core.Logic.{inl, inr, ⊎-elim}
 use mathlib.Core.List.{List, []}
 use mathlib.Core.Bool.{Bool, true, false, cond}
-use Prim.Native.Nat.{ℕ, _*_, _/_, _<_}
+use Prim.Native.Nat.{ℕ, _*_, _/_, _≤_, _<_}
 use native.Mathlib.Omega.{arith}
 use lib.Dec.{eqb, ltb}
 use lib.ListN.{length}
@@ -24,15 +25,17 @@ use Rattle.places.specs.declared.place.Found.{Found}
 use Rattle.places.specs.declared.place.Found.the-variants.{At, Nothing}
 use Rattle.places.specs.Place.{primaryOf, recordAt, setRecord, placeOf}
 use Rattle.places.proofs.Finding.{found}
+use Rattle.places.proofs.Parts.{part-other, apart}
 use Rattle.places.proofs.Records.{record-other}
 use Rattle.places.proofs.Words.{count-record}
+use Rattle.table.specs.Lists.{listAt, setList}
 use Rattle.table.specs.Result.{Result, routerPlace, actedOf}
 use Rattle.table.specs.Configuring.{placeIn, newRouter, freed, configureRefusal, removeRefusal}
 use Rattle.table.specs.Events.{happenedAt, happenedOf, clockedAt, clockedOf}
 use Rattle.table.specs.Packets.{refusalAt, acceptedAt, soughtAt, judgedAt, heardOf}
 use Rattle.table.specs.Theorems.{OneResult, OneConfiguring, OneRemoving, EventElsewhere, ClockElsewhere, PacketElsewhere}
-use Rattle.table.specs.Theorems.{ConfigureElsewhere, RemoveElsewhere, LowestFreePlace}
-use Rattle.table.proofs.Configures.{never-full, never-unknown}
+use Rattle.table.specs.Theorems.{ConfigureElsewhere, ListElsewhere, RemoveElsewhere, LowestFreePlace}
+use Rattle.table.proofs.Configures.{configure-most, never-full, never-unknown}
 use Rattle.table.proofs.Sought.{sought-below}
 
 pub one-result : OneResult
@@ -122,6 +125,30 @@ configure-elsewhere words v priority interval preempt addresses q long n =
     (newRouter v priority interval preempt (length addresses / 4))
     q (λ p e. found words 0 p e .below) (λ e f. never-full words [] v priority interval preempt addresses (none e) f)
     long n
+
+-- address lists stand side by side, 64 bytes each
+list-other : (lists addresses : List ℕ) (p q n : ℕ) → length lists ≡ 16320 → p < 255 → length addresses ≤ 64 → n ≤ 16
+    → (q ≡ p → ⊥) → listAt (setList lists p addresses) q n ≡ listAt lists q n
+unfolding listAt setList
+list-other lists addresses p q n long below most few e =
+    part-other lists addresses (64 * p) (length addresses) (64 * q) (4 * n) (omega arith) refl
+    (⊎-elim (λ x. inl (omega arith)) (λ x. inr (omega arith)) (apart q p e))
+
+put-list-elsewhere : (t : Bool) (f : Found) (lists addresses : List ℕ) (q n : ℕ) → ((p : ℕ) → f ≡ At p → p < 255)
+    → (t ≡ true → (f ≡ Nothing → ⊥) × (length addresses ≤ 64)) → length lists ≡ 16320 → n ≤ 16 → (f ≡ At q → ⊥)
+    → listAt (cond t (setList lists (placeIn f) addresses) lists) q n ≡ listAt lists q n
+put-list-elsewhere false f lists addresses q n below good long few e = refl
+put-list-elsewhere true Nothing lists addresses q n below good long few e = absurd (good refl .0 refl)
+put-list-elsewhere true (At p) lists addresses q n below good long few e =
+    list-other lists addresses p q n long (below p refl) (good refl .1) few (λ z. e (ap At (sym z)))
+
+pub list-elsewhere : ListElsewhere
+list-elsewhere words lists v priority interval addresses q n long few e =
+    let none = eqb-true (configureRefusal words v priority interval addresses) 0 in
+    put-list-elsewhere (eqb (configureRefusal words v priority interval addresses) 0) (placeOf words 0) lists addresses q n
+    (λ p f. found words 0 p f .below)
+    (λ t. (never-full words [] v priority interval false addresses (none t), configure-most words [] v priority interval false addresses (none t)))
+    long few e
 
 pub remove-elsewhere : RemoveElsewhere
 remove-elsewhere words v q long n =

@@ -1,5 +1,5 @@
 -- The theorems of this crate, as statements: each is proved under the same name in proofs/Theorems.antt.
-use Prim.Native.Nat.{ℕ, _<_}
+use Prim.Native.Nat.{ℕ, _≤_, _<_}
 use mathlib.Core.Path.{_≡_}
 use mathlib.Core.List.{List}
 use mathlib.Core.Bool.{Bool}
@@ -11,8 +11,9 @@ use Rattle.router.specs.declared.step.Event.{Event}
 use Rattle.places.specs.declared.place.Found.the-variants.{At}
 use Rattle.places.specs.Place.{baseOf, recordAt, placeOf}
 use Rattle.table.specs.declared.answer.Answered.{Answered}
+use Rattle.table.specs.Lists.{listAt}
 use Rattle.table.specs.Result.{Result, Leaves, routerPlace}
-use Rattle.table.specs.Configuring.{Configured, configuredWords, Removed, removedWords}
+use Rattle.table.specs.Configuring.{Configured, configuredWords, configuredLists, Removed, removedWords}
 use Rattle.table.specs.Events.{happenedOf, clockedOf}
 use Rattle.table.specs.Packets.{heardOf}
 
@@ -63,6 +64,13 @@ ConfigureElsewhere =
     (words : List ℕ) (vrid priority interval : ℕ) (preempt : Bool) (addresses : List ℕ) (place : ℕ) → length words ≡ 4096
     → (placeOf words 0 ≡ At place → ⊥)
     → recordAt (configuredWords words vrid priority interval preempt addresses) place ≡ recordAt words place
+
+-- and every other address list
+abbrev pub ListElsewhere : Type 0
+ListElsewhere =
+    (words lists : List ℕ) (vrid priority interval : ℕ) (addresses : List ℕ) (place n : ℕ) → length lists ≡ 16320 → n ≤ 16
+    → (placeOf words 0 ≡ At place → ⊥)
+    → listAt (configuredLists words lists vrid priority interval addresses) place n ≡ listAt lists place n
 
 -- and removing
 abbrev pub RemoveElsewhere : Type 0
