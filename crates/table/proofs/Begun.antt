@@ -50,7 +50,7 @@ module _ (primary : ℕ) where
       let e : baseOf p ≡ suc (15 + 16 * p) = omega arith in
       ap (λ (k : ℕ). getD (primary ∷ zeros 4095) k 0) e ∙ first-zeros 4095 (15 + 16 * p) primary (omega arith)
 
-  empty-record : (p : ℕ) → p < 255 → recordAt (emptyOf primary) p ≡ freed
+  pub empty-record : (p : ℕ) → p < 255 → recordAt (emptyOf primary) p ≡ freed
   unfolding recordAt emptyOf decodeOf
   empty-record p h =
       let e : baseOf p ≡ suc (15 + 16 * p) = omega arith in

@@ -25,7 +25,7 @@ same-test : (t : Bool) (a b : ℕ) → eqb a b ≡ t → (a ≡ b) ⊎ (a ≡ b 
 same-test true a b e = inl (eqb-true a b e)
 same-test false a b e = inr (eqb-false a b e)
 
-same-or-not : (a b : ℕ) → (a ≡ b) ⊎ (a ≡ b → ⊥)
+pub same-or-not : (a b : ℕ) → (a ≡ b) ⊎ (a ≡ b → ⊥)
 same-or-not a b = same-test (eqb a b) a b refl
 
 module _ (words : List ℕ) (held : Held words) (p : ℕ) (below : p < 255) (r : Router) (range : InRange r) (timed : Timed r)
@@ -90,21 +90,24 @@ module _ (words : List ℕ) (held : Held words) (p : ℕ) (below : p < 255) (r :
         sound = λ q u. sound-test q u (same-or-not q p);
       }
 
--- storing a router that is configured as the one it replaces
-pub replace-held : (words : List ℕ) → Held words → (p : ℕ) → p < 255 → (r : Router) → Kept (recordAt words p) r → Timed r
-    → Held (setRecord words p r)
-replace-held words held p below r kept timed =
-    let s = held .sound p below in
+-- a router that is configured as the one at a place
+pub kept-range : (words : List ℕ) (p : ℕ) (r : Router) → Kept (recordAt words p) r → InRange r
+kept-range words p r kept =
     let range = read-in-range words p in
-    let name : getD words (baseOf p) 0 ≡ r .vrid = s .named ∙ sym (kept .vrid) in
-    store-held words held p below r
-    (record {
+    record {
       vrid = rw (kept .vrid) (range .vrid);
       priority = rw (kept .priority) (range .priority);
       interval = rw (kept .interval) (range .interval);
       count = rw (kept .count) (range .count);
-    })
-    timed
+    }
+
+-- storing it there
+pub replace-held : (words : List ℕ) → Held words → (p : ℕ) → p < 255 → (r : Router) → Kept (recordAt words p) r → Timed r
+    → Held (setRecord words p r)
+replace-held words held p below r kept timed =
+    let s = held .sound p below in
+    let name : getD words (baseOf p) 0 ≡ r .vrid = s .named ∙ sym (kept .vrid) in
+    store-held words held p below r (kept-range words p r kept) timed
     (λ z. rw (kept .interval, kept .priority) (s .configured (λ y. z (sym name ∙ y))))
     (λ q u n e. sym name ∙ held .unique p q below u (λ y. n (sym y)) (name ∙ sym e))
 

@@ -9,4 +9,6 @@ pub mod Held
 pub mod Begun
 pub mod Histories
 pub mod Counted
+pub mod Became
 pub mod Theorems
+pub mod Tallied

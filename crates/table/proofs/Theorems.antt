@@ -86,7 +86,7 @@ pub clock-elsewhere : ClockElsewhere
 unfolding clockedOf
 clock-elsewhere words lists v q d room long n = clocked-elsewhere (routerPlace words v) words lists v q d room refl long n
 
-heard-elsewhere : (f : Found) (words lists bytes : List ℕ) (fields : Fields) (room : List ℕ) (q : ℕ)
+pub heard-elsewhere : (f : Found) (words lists bytes : List ℕ) (fields : Fields) (room : List ℕ) (q : ℕ)
     → routerPlace words (fields .vrid) ≡ f → length words ≡ 4096 → (f ≡ At q → ⊥)
     → recordAt (soughtAt f words lists bytes fields room .words) q ≡ recordAt words q
 heard-elsewhere Nothing words lists bytes fields room q s long n = count-record words 9 (omega arith) q

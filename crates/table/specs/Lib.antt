@@ -5,3 +5,4 @@ pub mod Events
 pub mod Packets
 pub mod Theorems
 pub mod Histories
+pub mod Counts
