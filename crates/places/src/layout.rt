@@ -5,7 +5,6 @@ use router::record::State;
 use router::step::state_number;
 ghost use mathlib.Core.Path.{_≡_};
 ghost use Prim.Native.Nat.{_%_};
-ghost use mathlib.Core.Bool.{Bool};
 ghost use lib.ListN.{length};
 ghost use Rattle.places.specs.Layout.{flagOf, stateOf, countsIn, decodeOf, encodeOf};
 

@@ -8,7 +8,7 @@ ghost use mathlib.Core.Path.{_≡_};
 ghost use Prim.Native.Nat.{_≤_};
 ghost use Rattle.router.specs.Step.{stateNumber, eventNumber, eventPriority, eventSource, becameMaster};
 ghost use Rattle.router.specs.Step.{stays, waits, hurries, stops, advertises, takesOver};
-ghost use Rattle.router.specs.Step.{beats, heardByBackup, heardByMaster, withCounts, enters, stepOf};
+ghost use Rattle.router.specs.Step.{heardByBackup, heardByMaster, withCounts, enters, stepOf};
 
 pub enum Event {
     Startup,

@@ -44,15 +44,15 @@ in-use words held v p e =
     let w = sought-word words v p e in
     (w .0, held .sound p (w .0) .configured (λ z. w .2 (sym (w .1) ∙ z)) .0)
 
-acted-test : (t : Bool) (a b : Result) → Held (a .words) → Held (b .words) → Held (cond t a b .words)
-acted-test true a b h k = h
-acted-test false a b h k = k
+either-held : (t : Bool) (a b : Result) → Held (a .words) → Held (b .words) → Held (cond t a b .words)
+either-held true a b h k = h
+either-held false a b h k = k
 
 acted-held : (words lists : List ℕ) → Held words → (p : ℕ) → p < 255 → (o : Outcome) (leftover : ℕ) (room : List ℕ)
     → Kept (recordAt words p) (o .router) → Timed (o .router) → Held (actedOf words lists p o leftover room .words)
 unfolding actedOf
 acted-held words lists held p below o leftover room kept timed =
-    acted-test (ltb (length room) (needOf (o .writes) (4 * o .router .count))) _ _ held
+    either-held (ltb (length room) (needOf (o .writes) (4 * o .router .count))) _ _ held
     (replace-held words held p below (o .router) kept timed)
 
 priority-most : (words : List ℕ) (p : ℕ) → recordAt words p .priority ≤ 255
@@ -84,14 +84,10 @@ accepted-held words lists held p below interval f room =
     (record { vrid = k .vrid; priority = k .priority; interval = k .interval; preempt = k .preempt; count = k .count })
     (step-timed r interval (priority-most words p) (primaryOf words) e (held .sound p below .timed))
 
-heard-test : (t : Bool) (a b : Result) → Held (a .words) → Held (b .words) → Held (cond t a b .words)
-heard-test true a b h k = h
-heard-test false a b h k = k
-
 heard-held : (words lists : List ℕ) → Held words → (p : ℕ) → p < 255 → 1 ≤ recordAt words p .interval → (bytes : List ℕ) (f : Fields)
     (room : List ℕ) → Held (heardAt words lists p bytes f room .words)
 heard-held words lists held p below interval bytes f room =
-    heard-test (eqb (refusalAt words lists p bytes f) 0) _ _ (accepted-held words lists held p below interval f room)
+    either-held (eqb (refusalAt words lists p bytes f) 0) _ _ (accepted-held words lists held p below interval f room)
     (replace-held words held p below (refusedOf (recordAt words p) (refusalAt words lists p bytes f))
     (record { vrid = refl; priority = refl; interval = refl; preempt = refl; count = refl })
     (held .sound p below .timed))

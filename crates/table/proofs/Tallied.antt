@@ -4,7 +4,7 @@ use mathlib.Core.Path.{_≡_, refl, sym, ap, subst, _∙_}
 use mathlib.Core.Logic.{_⊎_, inl, inr}
 use mathlib.Core.List.{List, [], _∷_}
 use mathlib.Core.Bool.{Bool, true, false, cond, _&&_}
-use Prim.Native.Nat.{ℕ, _+_, _*_, _/_, _%_, _^_, _<_}
+use Prim.Native.Nat.{ℕ, _*_, _/_, _%_, _^_, _<_}
 use native.Mathlib.Omega.{arith}
 use lib.Dec.{eqb, ltb}
 use lib.ListN.{length}
@@ -19,7 +19,7 @@ use Rattle.router.specs.declared.record.Router.{Router}
 use Rattle.router.specs.declared.step.Event.{Event}
 use Rattle.router.specs.declared.step.Event.the-variants.{Startup, Shutdown, Packet}
 use Rattle.router.specs.declared.step.Outcome.{Outcome}
-use Rattle.router.specs.Step.{counted, becameMaster, stepOf}
+use Rattle.router.specs.Step.{counted, becameMaster}
 use Rattle.router.specs.Accept.{refusedCounts, refusedOf, acceptedOf, acceptedCounts}
 use Rattle.router.proofs.Kept.{Kept, step-keeps, ticked-keeps}
 use Rattle.output.specs.Output.{needOf}

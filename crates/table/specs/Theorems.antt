@@ -27,7 +27,8 @@ OneResult =
 abbrev pub OneConfiguring : Type 0
 OneConfiguring =
     (words lists : List ℕ) (vrid priority interval : ℕ) (preempt : Bool) (addresses : List ℕ) (a b : ℕ)
-    (after other listsAfter listsOther : List ℕ) → Configured words lists vrid priority interval preempt addresses a after listsAfter
+    (after other listsAfter listsOther : List ℕ)
+    → Configured words lists vrid priority interval preempt addresses a after listsAfter
     → Configured words lists vrid priority interval preempt addresses b other listsOther
     → (a ≡ b) × (after ≡ other) × (listsAfter ≡ listsOther)
 
@@ -78,8 +79,12 @@ RemoveElsewhere =
     (words : List ℕ) (vrid place : ℕ) → length words ≡ 4096 → (routerPlace words vrid ≡ At place → ⊥)
     → recordAt (removedWords words vrid) place ≡ recordAt words place
 
--- "Configuring takes the lowest free place": free is a place whose first word is 0
+-- free is a place whose first word is 0
+abbrev pub Free : List ℕ → ℕ → Type 0
+Free words place = getD words (baseOf place) 0 ≡ 0
+
+-- "Configuring takes the lowest free place"
 abbrev pub LowestFreePlace : Type 0
 LowestFreePlace =
     (words : List ℕ) (place : ℕ) → placeOf words 0 ≡ At place
-    → (place < 255) × (getD words (baseOf place) 0 ≡ 0) × ((other : ℕ) → other < place → getD words (baseOf other) 0 ≡ 0 → ⊥)
+    → (place < 255) × Free words place × ((other : ℕ) → other < place → Free words other → ⊥)

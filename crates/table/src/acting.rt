@@ -34,7 +34,9 @@ pub fn act(
 ) -> Answered
     requires { ⌜ (place < 255) × (length (now words) ≡ 4096) ⌝ }
     requires { ⌜ (outcome .router .count ≤ 16) × (length (now lists) ≡ 16320) ⌝ }
-    ensures { λ r. ⌜ Leaves (actedOf (now (words .entry)) (now (lists .entry)) place outcome leftover (now (out .entry))) r (now (words .exit)) (now (out .exit)) ⌝ }
+    ensures { λ r. ⌜ Leaves
+        (actedOf (now (words .entry)) (now (lists .entry)) place outcome leftover (now (out .entry)))
+        r (now (words .exit)) (now (out .exit)) ⌝ }
 {
     let router = outcome.router;
     let writes = outcome.writes;

@@ -34,7 +34,8 @@ pub fn configure(
     preempt: bool,
     addresses: &[u8],
 ) -> u32
-    ensures { λ r. ⌜ Configured (now (words .entry)) (now (lists .entry)) vrid priority interval preempt (now (addresses .entry)) r (now (words .exit)) (now (lists .exit)) ⌝ }
+    ensures { λ r. ⌜ Configured (now (words .entry)) (now (lists .entry)) vrid priority interval preempt
+        (now (addresses .entry)) r (now (words .exit)) (now (lists .exit)) ⌝ }
 {
     set_up(words, lists, vrid, priority, interval, preempt, addresses)
 }
@@ -48,14 +49,16 @@ pub fn remove(words: &mut [u32; 4096], vrid: u8) -> u32
 
 // Starts a virtual router up, or refuses by 20 or 22.
 pub fn startup(words: &mut [u32; 4096], lists: &[u8; 16320], vrid: u8, out: &mut [u8]) -> Answered
-    ensures { λ r. ⌜ Leaves (happenedOf (now (words .entry)) (now (lists .entry)) vrid Startup (now (out .entry))) r (now (words .exit)) (now (out .exit)) ⌝ }
+    ensures { λ r. ⌜ Leaves (happenedOf (now (words .entry)) (now (lists .entry)) vrid Startup (now (out .entry)))
+        r (now (words .exit)) (now (out .exit)) ⌝ }
 {
     happen(words, lists, vrid, Event::Startup, out)
 }
 
 // Shuts a virtual router down, or refuses by 20 or 22.
 pub fn shutdown(words: &mut [u32; 4096], lists: &[u8; 16320], vrid: u8, out: &mut [u8]) -> Answered
-    ensures { λ r. ⌜ Leaves (happenedOf (now (words .entry)) (now (lists .entry)) vrid Shutdown (now (out .entry))) r (now (words .exit)) (now (out .exit)) ⌝ }
+    ensures { λ r. ⌜ Leaves (happenedOf (now (words .entry)) (now (lists .entry)) vrid Shutdown (now (out .entry)))
+        r (now (words .exit)) (now (out .exit)) ⌝ }
 {
     happen(words, lists, vrid, Event::Shutdown, out)
 }
@@ -68,7 +71,8 @@ pub fn clock(
     ticks: u32,
     out: &mut [u8],
 ) -> Answered
-    ensures { λ r. ⌜ Leaves (clockedOf (now (words .entry)) (now (lists .entry)) vrid ticks (now (out .entry))) r (now (words .exit)) (now (out .exit)) ⌝ }
+    ensures { λ r. ⌜ Leaves (clockedOf (now (words .entry)) (now (lists .entry)) vrid ticks (now (out .entry)))
+        r (now (words .exit)) (now (out .exit)) ⌝ }
 {
     tick(words, lists, vrid, ticks, out)
 }
@@ -80,7 +84,9 @@ pub fn packet(
     packet: &[u8],
     out: &mut [u8],
 ) -> Answered
-    ensures { λ r. ⌜ Leaves (heardOf (now (words .entry)) (now (lists .entry)) (now (packet .entry)) (now (out .entry))) r (now (words .exit)) (now (out .exit)) ⌝ }
+    ensures { λ r. ⌜ Leaves
+        (heardOf (now (words .entry)) (now (lists .entry)) (now (packet .entry)) (now (out .entry)))
+        r (now (words .exit)) (now (out .exit)) ⌝ }
 {
     hear(words, lists, packet, out)
 }

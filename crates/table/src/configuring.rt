@@ -121,7 +121,8 @@ pub fn set_up(
     addresses: &[u8],
 ) -> u32
     requires { ⌜ (length (now words) ≡ 4096) × (length (now lists) ≡ 16320) ⌝ }
-    ensures { λ r. ⌜ Configured (now (words .entry)) (now (lists .entry)) vrid priority interval preempt (now (addresses .entry)) r (now (words .exit)) (now (lists .exit)) ⌝ }
+    ensures { λ r. ⌜ Configured (now (words .entry)) (now (lists .entry)) vrid priority interval preempt
+        (now (addresses .entry)) r (now (words .exit)) (now (lists .exit)) ⌝ }
 {
     let refusal = configure_refusal(words, vrid, priority, interval, addresses);
     if refusal != 0 {

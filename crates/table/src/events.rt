@@ -39,7 +39,8 @@ fn ticked_at(words: &[u32], place: usize, ticks: u32) -> Ticked
 // Startup or shutdown of a virtual router.
 pub fn happen(words: &mut [u32], lists: &[u8], vrid: u8, event: Event, out: &mut [u8]) -> Answered
     requires { ⌜ (length (now words) ≡ 4096) × (length (now lists) ≡ 16320) ⌝ }
-    ensures { λ r. ⌜ Leaves (happenedOf (now (words .entry)) (now (lists .entry)) vrid event (now (out .entry))) r (now (words .exit)) (now (out .exit)) ⌝ }
+    ensures { λ r. ⌜ Leaves (happenedOf (now (words .entry)) (now (lists .entry)) vrid event (now (out .entry)))
+        r (now (words .exit)) (now (out .exit)) ⌝ }
 {
     match seek(words, vrid) {
         Found::At(place) => {
@@ -53,7 +54,8 @@ pub fn happen(words: &mut [u32], lists: &[u8], vrid: u8, event: Event, out: &mut
 // A clock step of a virtual router.
 pub fn tick(words: &mut [u32], lists: &[u8], vrid: u8, ticks: u32, out: &mut [u8]) -> Answered
     requires { ⌜ (length (now words) ≡ 4096) × (length (now lists) ≡ 16320) ⌝ }
-    ensures { λ r. ⌜ Leaves (clockedOf (now (words .entry)) (now (lists .entry)) vrid ticks (now (out .entry))) r (now (words .exit)) (now (out .exit)) ⌝ }
+    ensures { λ r. ⌜ Leaves (clockedOf (now (words .entry)) (now (lists .entry)) vrid ticks (now (out .entry)))
+        r (now (words .exit)) (now (out .exit)) ⌝ }
 {
     match seek(words, vrid) {
         Found::At(place) => {

@@ -29,7 +29,8 @@ ghost use Rattle.table.specs.Packets.{refusalAt, acceptedAt, heardAt, so
 fn same_list(lists: &[u8], place: usize, count: u8, packet: &[u8], fields: Fields) -> bool
     requires { ⌜ (place < 255) × (count ≤ 16) × (length (now lists) ≡ 16320) ⌝ }
     requires { ⌜ fields .list + 4 * fields .count ≤ length (now packet) ⌝ }
-    ensures { λ r. ⌜ r ≡ listsMatch (listAt (now (lists .entry)) place count) (theirList (now (packet .entry)) fields) ⌝ }
+    ensures { λ r. ⌜ r ≡ listsMatch (listAt (now (lists .entry)) place count)
+        (theirList (now (packet .entry)) fields) ⌝ }
 {
     let start = 64 * place;
     let end = start + 4 * (count as usize);
@@ -52,7 +53,8 @@ fn refusal_at(words: &[u32], lists: &[u8], place: usize, packet: &[u8], fields: 
 // Counts a refusal of 10 to 13 for the router at a place.
 fn refuse_at(words: &mut [u32], place: usize, number: u32)
     requires { ⌜ (place < 255) × (length (now words) ≡ 4096) ⌝ }
-    ensures { λ _. ⌜ now (words .exit) ≡ setRecord (now (words .entry)) place (refusedOf (recordAt (now (words .entry)) place) number) ⌝ }
+    ensures { λ _. ⌜ now (words .exit) ≡ setRecord (now (words .entry)) place
+        (refusedOf (recordAt (now (words .entry)) place) number) ⌝ }
 {
     let counted = router::accept::count_refusal(load(words, place), number);
     store(words, place, counted)
@@ -78,7 +80,9 @@ fn hear_at(
 ) -> Answered
     requires { ⌜ (place < 255) × (length (now words) ≡ 4096) × (length (now lists) ≡ 16320) ⌝ }
     requires { ⌜ fields .list + 4 * fields .count ≤ length (now packet) ⌝ }
-    ensures { λ r. ⌜ Leaves (heardAt (now (words .entry)) (now (lists .entry)) place (now (packet .entry)) fields (now (out .entry))) r (now (words .exit)) (now (out .exit)) ⌝ }
+    ensures { λ r. ⌜ Leaves
+        (heardAt (now (words .entry)) (now (lists .entry)) place (now (packet .entry)) fields (now (out .entry)))
+        r (now (words .exit)) (now (out .exit)) ⌝ }
 {
     let refusal = refusal_at(words, lists, place, packet, fields);
     if refusal != 0 {
@@ -99,7 +103,10 @@ fn hear_judged(
 ) -> Answered
     requires { ⌜ (length (now words) ≡ 4096) × (length (now lists) ≡ 16320) ⌝ }
     requires { ⌜ fields .list + 4 * fields .count ≤ length (now packet) ⌝ }
-    ensures { λ r. ⌜ Leaves (soughtAt (routerPlace (now (words .entry)) (fields .vrid)) (now (words .entry)) (now (lists .entry)) (now (packet .entry)) fields (now (out .entry))) r (now (words .exit)) (now (out .exit)) ⌝ }
+    ensures { λ r. ⌜ Leaves
+        (soughtAt (routerPlace (now (words .entry)) (fields .vrid)) (now (words .entry)) (now (lists .entry))
+        (now (packet .entry)) fields (now (out .entry)))
+        r (now (words .exit)) (now (out .exit)) ⌝ }
 {
     match seek(words, fields.vrid) {
         Found::At(place) => hear_at(words, lists, place, packet, fields, out),
@@ -113,7 +120,9 @@ fn hear_judged(
 // A packet of any bytes.
 pub fn hear(words: &mut [u32], lists: &[u8], packet: &[u8], out: &mut [u8]) -> Answered
     requires { ⌜ (length (now words) ≡ 4096) × (length (now lists) ≡ 16320) ⌝ }
-    ensures { λ r. ⌜ Leaves (heardOf (now (words .entry)) (now (lists .entry)) (now (packet .entry)) (now (out .entry))) r (now (words .exit)) (now (out .exit)) ⌝ }
+    ensures { λ r. ⌜ Leaves
+        (heardOf (now (words .entry)) (now (lists .entry)) (now (packet .entry)) (now (out .entry)))
+        r (now (words .exit)) (now (out .exit)) ⌝ }
 {
     match judge(packet) {
         Judged::Accepted(fields) => hear_judged(words, lists, packet, fields, out),

@@ -41,7 +41,8 @@ pub extern "C" fn vrrp_write_advertisement(
     addresses: &[u8],
     out: &mut [u8],
 ) -> u32
-    ensures { λ r. ⌜ AdvertisementAnswered vrid priority interval primary (now (addresses .entry)) (now (out .entry)) r (now (out .exit)) ⌝ }
+    ensures { λ r. ⌜ AdvertisementAnswered vrid priority interval primary (now (addresses .entry)) (now (out .entry))
+        r (now (out .exit)) ⌝ }
 {
     number_of(write_advertisement(vrid, priority, interval, primary, addresses, out))
 }

@@ -95,7 +95,8 @@ fn ip_header(primary: u32, addresses: &[u8]) -> [u8; 20]
 // The 8 bytes of the message before its addresses.
 fn message_head(vrid: u8, priority: u8, interval: u8, addresses: &[u8]) -> [u8; 8]
     requires { ⌜ (length (now addresses) % 4 ≡ 0) × (length (now addresses) ≤ 64) ⌝ }
-    ensures bytes { λ r. ⌜ r ++ messageEnd (now (addresses .entry)) ≡ messageOf vrid priority interval (now (addresses .entry)) ⌝ }
+    ensures bytes { λ r. ⌜ r ++ messageEnd (now (addresses .entry))
+        ≡ messageOf vrid priority interval (now (addresses .entry)) ⌝ }
     ensures long { λ r. ⌜ 8 ≡ length r ⌝ }
 {
     let count = (addresses.len() / 4) as u8;
@@ -123,7 +124,8 @@ pub fn put_advertisement(
 )
     requires { ⌜ (length (now addresses) % 4 ≡ 0) × (length (now addresses) ≤ 64) ⌝ }
     requires { ⌜ 50 + length (now addresses) ≤ length (now room) ⌝ }
-    ensures { λ _. ⌜ now (room .exit) ≡ over (frameOf vrid priority interval primary (now (addresses .entry))) (now (room .entry)) ⌝ }
+    ensures { λ _. ⌜ now (room .exit) ≡ over (frameOf vrid priority interval primary (now (addresses .entry)))
+        (now (room .entry)) ⌝ }
 {
     let ethernet = ethernet_head(vrid);
     let header = ip_header(primary, addresses);
@@ -165,7 +167,8 @@ pub fn write_advertisement(
     addresses: &[u8],
     out: &mut [u8],
 ) -> Written
-    ensures { λ r. ⌜ AdvertisementWritten vrid priority interval primary (now (addresses .entry)) (now (out .entry)) r (now (out .exit)) ⌝ }
+    ensures { λ r. ⌜ AdvertisementWritten vrid priority interval primary (now (addresses .entry)) (now (out .entry))
+        r (now (out .exit)) ⌝ }
 {
     let need = 50 + addresses.len();
     let refusal = advertisement_refusal(vrid, interval, addresses, out.len());

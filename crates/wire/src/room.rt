@@ -17,7 +17,8 @@ pub enum Written {
 // Copies `bytes` into the room from `at` on.
 pub fn put(room: &mut [u8], at: usize, bytes: &[u8])
     requires { ⌜ at + length (now bytes) ≤ length (now room) ⌝ }
-    ensures { λ _. ⌜ now (room .exit) ≡ paste (now (room .entry)) at (now (bytes .entry)) (length (now (bytes .entry))) ⌝ }
+    ensures { λ _. ⌜ now (room .exit) ≡ paste (now (room .entry)) at (now (bytes .entry))
+        (length (now (bytes .entry))) ⌝ }
 {
     let mut k = 0;
     while k < bytes.len() {
