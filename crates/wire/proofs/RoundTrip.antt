@@ -94,12 +94,12 @@ module _ (vrid priority interval primary room : ℕ) (addresses : List ℕ) (v :
   unfolding packetOf headerOf
   source-is = sym (number-of-bytes primary)
 
-  accepted : judgedOf packet ≡ Accepted (fieldsIn primary message 28)
+  pub accepted : judgedOf packet ≡ Accepted (fieldsIn primary message 28)
   unfolding fieldsOf
   accepted = sym (accepts packet (fieldsIn primary message 28) not-refused (cc (source-is, payload-is, header-is)))
 
   -- the addresses stand behind the header and the message's first 8 bytes
-  list-stands : take (length addresses) (drop 28 packet) ≡ addresses
+  pub list-stands : take (length addresses) (drop 28 packet) ≡ addresses
   unfolding packetOf headerOf messageOf
   list-stands = take-at addresses (replicate 8 0) (length addresses) refl
 

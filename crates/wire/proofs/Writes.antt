@@ -40,6 +40,10 @@ pub record Writable (addresses : List ℕ) (room : ℕ) : Type 0 where
   pub most : length addresses ≤ 64
   pub holds : 50 + length addresses ≤ room
 
+-- good address bytes need no more room than the frame's
+pub frame-fits : (addresses : List ℕ) → addressBytesWrong addresses ≡ false → Writable addresses (50 + length addresses)
+frame-fits addresses e = omega (bytes-right, tests)
+
 pub advertisement-passed : (vrid interval : ℕ) (addresses : List ℕ) (room : ℕ)
     → advertisementRefusal vrid interval addresses room ≡ 0 → Writable addresses room
 unfolding advertisementRefusal
