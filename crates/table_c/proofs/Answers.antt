@@ -1,0 +1,13 @@
+-- The number alone of what `table` answers, with the words and the room as it leaves them.
+-- Assumes nothing.
+use mathlib.Core.Path.{_≡_, ap, _∙_}
+use mathlib.Core.List.{List}
+use Prim.Native.Nat.{ℕ}
+use Rattle.table.specs.declared.answer.Answered.{Answered}
+use Rattle.table.specs.Result.{Result, Leaves, answerNumber}
+use Rattle.table_c.specs.Numbered.{Numbered}
+
+pub numbered : (result : Result) (answered : Answered) (words room : List ℕ) (number : ℕ)
+    → number ≡ answerNumber answered → Leaves result answered words room → Numbered result number words room
+numbered result answered words room number e l =
+    record { answer-is = e ∙ ap answerNumber (l .answer-is); words-are = l .words-are; room-is = l .room-is }
