@@ -1,6 +1,7 @@
-/* The calls whose instructions are counted and whose stack is measured. */
+/* The three calls of include/vrrp.h, to be counted and measured. */
 #include "cases.h"
 
+#include <stddef.h>
 #include <string.h>
 
 #include "packet.h"
@@ -9,9 +10,26 @@
 
 enum { VRID = 1, PRIORITY = 100, INTERVAL = 1, IP_LEN = 20, EMPTY_LEN = 16 };
 
+struct calls {
+    uint32_t (*judge)(const uint8_t *, size_t);
+    uint32_t (*write_advertisement)(uint8_t, uint8_t, uint8_t, uint32_t, const uint8_t *, size_t, uint8_t *, size_t);
+    uint32_t (*write_arp)(uint8_t, uint32_t, uint8_t *, size_t);
+};
+
+enum kind { JUDGE, ADVERTISEMENT, ARP };
+
+struct call_case {
+    const char *name;
+    enum kind kind;
+    size_t n;        /* addresses in the packet or in the frame */
+    size_t len;      /* bytes of the packet that are handed over; 0: all */
+    uint8_t ttl;
+    uint32_t answer; /* what the call must answer */
+};
+
 static const uint32_t primary = 0xC0A80102;
 
-const struct call_case cases[] = {
+static const struct call_case cases[] = {
     {"judge, good, n = 1", JUDGE, 1, 0, 255, 0},
     {"judge, good, n = 16", JUDGE, 16, 0, 255, 0},
     {"judge, good, n = 255", JUDGE, 255, 0, 255, 0},
@@ -29,8 +47,19 @@ static size_t packet_len;
 static uint8_t addresses[4 * 16];
 static uint8_t room[128];
 
-void case_prepare(const struct call_case *c)
+const char *case_name(int i)
 {
+    return cases[i].name;
+}
+
+uint32_t case_answer(int i)
+{
+    return cases[i].answer;
+}
+
+void case_prepare(int i)
+{
+    const struct call_case *c = &cases[i];
     size_t payload = EMPTY_LEN + 4 * c->n;
     uint8_t *message = packet + IP_LEN;
 
@@ -38,8 +67,8 @@ void case_prepare(const struct call_case *c)
     message[1] = VRID;
     message[2] = PRIORITY;
     message[5] = INTERVAL;
-    for (size_t i = 0; i < 4 * c->n; i++)
-        message[8 + i] = (uint8_t)(0xC0 + 7 * i);
+    for (size_t k = 0; k < 4 * c->n; k++)
+        message[8 + k] = (uint8_t)(0xC0 + 7 * k);
     memcpy(addresses, message + 8, sizeof addresses);
     packet_good_header(packet, IP_LEN, payload);
     packet_good_message(message, (uint8_t)c->n);
@@ -48,8 +77,10 @@ void case_prepare(const struct call_case *c)
     packet_len = c->len != 0 ? c->len : IP_LEN + payload;
 }
 
-uint32_t case_call(const struct calls *calls, const struct call_case *c)
+uint32_t case_call(const struct calls *calls, int i)
 {
+    const struct call_case *c = &cases[i];
+
     switch (c->kind) {
     case JUDGE:
         return calls->judge(packet, packet_len);

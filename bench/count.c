@@ -15,18 +15,18 @@ static const struct calls *maker(const char *name)
 
 int main(int argc, char **argv)
 {
-    const struct call_case *c;
     const struct calls *calls;
+    int i;
     uint32_t wrong = 0;
 
     if (argc != 4 || atoi(argv[2]) < 0 || atoi(argv[2]) >= cases_count) {
         fprintf(stderr, "usage: count ours|plain|empty CASE CALLS\n");
         return 2;
     }
-    c = &cases[atoi(argv[2])];
+    i = atoi(argv[2]);
     calls = maker(argv[1]);
-    case_prepare(c);
+    case_prepare(i);
     for (int left = atoi(argv[3]); left > 0; left--)
-        wrong |= case_call(calls, c) ^ c->answer;
+        wrong |= case_call(calls, i) ^ case_answer(i);
     return calls != &empty && wrong != 0;
 }

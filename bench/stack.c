@@ -11,7 +11,7 @@ static const uint64_t paint = 0x5CA1AB1E0DDBA115;
 static uint64_t stack[WORDS];
 
 static const struct calls *calls_now;
-static const struct call_case *case_now;
+static int case_now;
 static uint32_t answer;
 
 static void task(void)
@@ -20,15 +20,15 @@ static void task(void)
 }
 
 /* Makes the case's call on a painted stack and answers how many bytes of it are no longer paint. */
-static size_t depth(const struct calls *calls, const struct call_case *c)
+static size_t depth(const struct calls *calls, int i)
 {
     static ucontext_t here, there;
     size_t untouched = 0;
 
-    for (size_t i = 0; i < WORDS; i++)
-        stack[i] = paint;
+    for (size_t k = 0; k < WORDS; k++)
+        stack[k] = paint;
     calls_now = calls;
-    case_now = c;
+    case_now = i;
     if (getcontext(&there) != 0)
         exit(1);
     there.uc_stack.ss_sp = stack;
@@ -43,13 +43,13 @@ static size_t depth(const struct calls *calls, const struct call_case *c)
 }
 
 /* What a call needs beyond an empty function called the same way. */
-static size_t need(const struct calls *calls, const struct call_case *c)
+static size_t need(const struct calls *calls, int i)
 {
-    size_t least = depth(&empty, c);
-    size_t bytes = depth(calls, c);
+    size_t least = depth(&empty, i);
+    size_t bytes = depth(calls, i);
 
-    if (answer != c->answer) {
-        fprintf(stderr, "stack: %s answered %u\n", c->name, (unsigned)answer);
+    if (answer != case_answer(i)) {
+        fprintf(stderr, "stack: %s answered %u\n", case_name(i), (unsigned)answer);
         exit(1);
     }
     return bytes - least;
@@ -58,8 +58,8 @@ static size_t need(const struct calls *calls, const struct call_case *c)
 int main(void)
 {
     for (int i = 0; i < cases_count; i++) {
-        case_prepare(&cases[i]);
-        printf("%zu %zu %s\n", need(&ours, &cases[i]), need(&plain, &cases[i]), cases[i].name);
+        case_prepare(i);
+        printf("%zu %zu %s\n", need(&ours, i), need(&plain, i), case_name(i));
     }
     return 0;
 }

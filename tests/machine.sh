@@ -1,7 +1,6 @@
 # What the commands need of the machine; sourced by a script that has set root, the repository.
 # The library is x86-64 code: other machines take a cross compiler, and the emulator that comes with the toolchain.
 
-archive=$root/target/staticlib/libvrrp_c.a
 out=$root/target/c
 updated=
 
@@ -34,9 +33,10 @@ x86_64)
     ;;
 esac
 
-# library: makes the library where it is missing.
+# library NAME: makes the crate's library where it is missing; programs are linked with it from here on.
 library() {
-    [ -f "$archive" ] || (cd "$root" && rt staticlib vrrp_c >&2)
+    archive=$root/target/staticlib/lib$1.a
+    [ -f "$archive" ] || (cd "$root" && rt staticlib "$1" >&2)
 }
 
 # build PROGRAM SOURCE...: compiles and links the sources with the library to the folder out.
