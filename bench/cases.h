@@ -1,4 +1,4 @@
-/* The calls whose instructions are counted and whose stack is measured: those of cases.c, or those of table_cases.c. */
+/* The calls whose instructions are counted and whose stack is measured: those of cases.c or of table_cases.c. */
 #ifndef CASES_H
 #define CASES_H
 

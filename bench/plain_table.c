@@ -66,7 +66,8 @@ static void wait_as_backup(struct plain_router *r)
     r->timer = 768 * (uint32_t)r->interval + 256 - r->priority;
 }
 
-static uint32_t write_frame(const struct plain_table *table, const struct plain_router *r, uint8_t *out, size_t out_len)
+static uint32_t write_frame(const struct plain_table *table, const struct plain_router *r,
+                            uint8_t *out, size_t out_len)
 {
     return plain_write_advertisement(r->vrid, r->priority, r->interval, table->primary,
                                      r->addresses, 4 * (size_t)r->count, out, out_len);

@@ -15,7 +15,8 @@ uint32_t table_configure(uint32_t *words, uint8_t *lists, uint8_t vrid, uint8_t 
 
 uint32_t table_startup(uint32_t *words, const uint8_t *lists, uint8_t vrid, uint8_t *out, size_t out_len);
 
-uint32_t table_clock(uint32_t *words, const uint8_t *lists, uint8_t vrid, uint32_t ticks, uint8_t *out, size_t out_len);
+uint32_t table_clock(uint32_t *words, const uint8_t *lists, uint8_t vrid, uint32_t ticks,
+                     uint8_t *out, size_t out_len);
 
 uint32_t table_packet(uint32_t *words, const uint8_t *lists, const uint8_t *packet, size_t packet_len,
                       uint8_t *out, size_t out_len);
