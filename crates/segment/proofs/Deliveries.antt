@@ -97,7 +97,8 @@ module _ (vrid interval : ℕ) (addresses : List ℕ) (then : List Memory) (segm
     abbrev hears : List ℕ → Memory
     hears bytes = called here (packet bytes (d .room))
 
-    other : (i : ℕ) → (i ≡ d .to → ⊥) → stationAt next i ≡ stationAt now i
+    -- every other station is as it was
+    pub other : (i : ℕ) → (i ≡ d .to → ⊥) → stationAt next i ≡ stationAt now i
     other i e = getD-set-other now (d .to) i _ _ e
 
     stands : Stands vrid interval addresses (stationAt then (d .from))

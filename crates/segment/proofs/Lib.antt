@@ -4,3 +4,4 @@ pub mod States
 pub mod Ranks
 pub mod Deliveries
 pub mod Theorems
+pub mod Writing

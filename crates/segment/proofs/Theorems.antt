@@ -6,17 +6,18 @@ use mathlib.Core.List.{List, [], _∷_}
 use Prim.Native.Nat.{ℕ, _<_}
 use native.Mathlib.Omega.{arith}
 use lib.ListN.{length}
+use lib.Seq.{getD-set-other}
 use Rattle.router.specs.declared.record.State.{State}
 use Rattle.router.specs.declared.record.State.the-variants.{Initialize, Backup, Master}
 use Rattle.table.specs.Histories.{Memory}
 use Rattle.table.proofs.Held.{same-or-not}
 use Rattle.segment.specs.Segment.{routerOf, primaryAddress, IsMaster, stationAt, Segment, Outranks}
 use Rattle.segment.specs.Segment.{Delivery, handedOver, afterAll, FromMasters, Has}
-use Rattle.segment.specs.Theorems.{OneMaster, OneMasterRemains, MakesNoMaster}
+use Rattle.segment.specs.Theorems.{OneMaster, OneMasterRemains, MakesNoMaster, BeatenBy, NamesWhoBeatIt, LoneMaster}
 use Rattle.segment.proofs.States.{not-master}
-use Rattle.segment.proofs.Ranks.{Above, above-asym, Greatest, the-greatest}
+use Rattle.segment.proofs.Ranks.{above-asym, above-either, Greatest, the-greatest}
 use Rattle.segment.proofs.Deliveries.{priority-small, priorityOf, addressOf, Standing, begins, goes-on, makes-none}
-use Rattle.segment.proofs.Deliveries.{goes-down, stands-up}
+use Rattle.segment.proofs.Deliveries.{other, goes-down, stands-up}
 
 master-or-not : (s : State) → (s ≡ Master) ⊎ (s ≡ Master → ⊥)
 master-or-not Initialize = inr (λ e. let z : _≡_ {A = ℕ} 0 1 = cc in omega arith)
@@ -131,6 +132,73 @@ module _ (vrid interval : ℕ) (addresses : List ℕ) (then : List Memory) (segm
         alone = λ i l h. alone-test ds v pairs i l h (same-or-not i (top .which));
       }
 
+  -- a delivery by which a station is no Master any more came to it from one that outranks it
+  abbrev Beaten : List Delivery → ℕ → Type 0
+  Beaten ds i = BeatenBy vrid then ds i
+
+  later : (d : Delivery) (rest : List Delivery) (i : ℕ) → Beaten rest i → Beaten (d ∷ rest) i
+  later d rest i b =
+      record {
+        station = b .station;
+        below = b .below;
+        master = b .master;
+        delivered = inr (b .delivered);
+        outranks = b .outranks;
+      }
+
+  module _ (now : List Memory) (stand : Stand now) (d : Delivery) (rest : List Delivery) (v : FromMasters vrid then (d ∷ rest))
+      (i : ℕ) (h : MasterOf now i) (n : MasterOf (handedOver vrid then now d) i → ⊥) where
+    hit-test : (d .to ≡ i) ⊎ (d .to ≡ i → ⊥) → d .to ≡ i
+    hit-test (inl e) = e
+    hit-test (inr e) =
+        absurd
+        (n
+        (subst (IsMaster vrid)
+        (sym (other vrid interval addresses then segment now stand d (v .0 .0) (v .0 .1) i (λ z. e (sym z)))) h))
+
+    hit : d .to ≡ i
+    hit = hit-test (same-or-not (d .to) i)
+
+    apart : address (d .from) ≡ address i → ⊥
+    apart e =
+        let below : i < length then = subst (λ (k : ℕ). k < length then) hit (v .0 .1) in
+        v .0 .2 (hit ∙ sym (segment .apart (d .from) i (v .0 .0) below e))
+
+    rank-test : OutranksOf (d .from) i ⊎ OutranksOf i (d .from) → Beaten (d ∷ rest) i
+    rank-test (inl o) =
+        record {
+          station = d .from;
+          below = v .0 .0;
+          master = v .0 .3;
+          delivered = inl (refl, hit);
+          outranks = o;
+        }
+    rank-test (inr o) =
+        absurd
+        (n
+        (stands-up vrid interval addresses then segment now stand d (v .0 .0) (v .0 .1) i
+        (λ z. above-asym (priority (d .from)) (address (d .from)) (priority i) (address i) z o) h))
+
+    beaten-now : Beaten (d ∷ rest) i
+    beaten-now = rank-test (above-either (priority (d .from)) (address (d .from)) (priority i) (address i) apart)
+
+  -- the first delivery unmade it, or a later one
+  first-or-later : (now : List Memory) → Stand now → (d : Delivery) (rest : List Delivery) → FromMasters vrid then (d ∷ rest)
+      → (i : ℕ) → MasterOf now i → (MasterOf (handedOver vrid then now d) i → Beaten rest i)
+      → MasterOf (handedOver vrid then now d) i ⊎ (MasterOf (handedOver vrid then now d) i → ⊥) → Beaten (d ∷ rest) i
+  first-or-later now s d rest v i h f (inl x) = later d rest i (f x)
+  first-or-later now s d rest v i h f (inr x) = beaten-now now s d rest v i h x
+
+  pub beaten : (now : List Memory) → Stand now → (ds : List Delivery) → FromMasters vrid then ds → (i : ℕ) → MasterOf now i
+      → (MasterOf (all now ds) i → ⊥) → Beaten ds i
+  beaten now s [] v i h n = absurd (n h)
+  beaten now s (d ∷ rest) v i h n =
+      first-or-later now s d rest v i h
+      (λ x.
+      beaten (handedOver vrid then now d)
+      (goes-on vrid interval addresses then segment now s d (v .0 .0) (v .0 .1)) rest (v .1) i x n)
+      (master-or-not (routerOf vrid (stationAt (handedOver vrid then now d) i) .state))
+
 pub one-master-remains : OneMasterRemains
 one-master-remains vrid interval addresses stations deliveries segment v pairs =
     one-master vrid interval addresses stations segment deliveries v pairs
@@ -139,3 +207,18 @@ pub makes-no-master : MakesNoMaster
 makes-no-master vrid interval addresses stations deliveries segment v i h =
     all-make-none vrid interval addresses stations segment stations
     (begins vrid interval addresses stations segment) deliveries v i h
+
+pub names-who-beat-it : NamesWhoBeatIt
+names-who-beat-it vrid interval addresses stations deliveries segment v i h n =
+    beaten vrid interval addresses stations segment stations (begins vrid interval addresses stations segment) deliveries v i h n
+
+lone : (vrid : ℕ) (then now : List Memory) (ds : List Delivery) → FromMasters vrid then ds → (k : ℕ)
+    → ((i : ℕ) → i < length then → IsMaster vrid (stationAt then i) → i ≡ k)
+    → stationAt (afterAll vrid then now ds) k ≡ stationAt now k
+lone vrid then now [] v k only = refl
+lone vrid then now (d ∷ rest) v k only =
+    lone vrid then (handedOver vrid then now d) rest (v .1) k only
+    ∙ getD-set-other now (d .to) k _ _ (λ e. v .0 .2 (sym e ∙ sym (only (d .from) (v .0 .0) (v .0 .3))))
+
+pub lone-master : LoneMaster
+lone-master vrid stations deliveries v k only = lone vrid stations stations deliveries v k only

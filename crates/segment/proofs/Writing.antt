@@ -1,0 +1,75 @@
+-- A Master's advertisement is what its own timer has it write.
+-- Assumes nothing.
+use mathlib.Core.Path.{_≡_, refl, sym, ap, _∙_}
+use mathlib.Core.List.{List}
+use mathlib.Core.Bool.{Bool, true, false, cond}
+use Prim.Native.Nat.{ℕ, _+_, _*_, _≤_, _<_}
+use native.Mathlib.Omega.{arith}
+use lib.Dec.{ltb}
+use lib.ListN.{length, take, drop}
+use lib.Seq.{take-at}
+use borrow.Author.Tests.{le-ltb}
+use Rattle.wire.specs.Frame.{frameOf}
+use Rattle.wire.specs.Writing.{over}
+use Rattle.router.specs.declared.record.Router.{Router}
+use Rattle.router.specs.declared.record.State.{State}
+use Rattle.router.specs.declared.record.State.the-variants.{Initialize, Backup, Master}
+use Rattle.router.specs.declared.step.Event.the-variants.{Timer}
+use Rattle.router.specs.declared.clock.Ticked.{Ticked}
+use Rattle.router.specs.Step.{advertises, stepIn, stepOf}
+use Rattle.router.specs.Clock.{tickedIn, tickedOf}
+use Rattle.places.specs.Place.{primaryOf, recordAt}
+use Rattle.places.proofs.Records.{read-in-range}
+use Rattle.output.specs.Output.{bytesOf}
+use Rattle.output.proofs.Lengths.{frame-length}
+use Rattle.places.specs.declared.place.Found.the-variants.{At}
+use Rattle.router.specs.declared.step.Writes.the-variants.{Advertisement}
+use Rattle.table.specs.Lists.{listAt}
+use Rattle.table.specs.Result.{Result, routerPlace, actedOf}
+use Rattle.table.proofs.Sought.{clocked}
+use Rattle.table.specs.Events.{clockedOf}
+use Rattle.table.specs.Histories.{Memory}
+use Rattle.segment.specs.Segment.{routerOf, addressesOf, IsMaster, Stands, advertisementOf}
+use Rattle.segment.specs.Theorems.{OwnWriting}
+use Rattle.segment.proofs.Standing.{placeAt}
+use Rattle.segment.proofs.States.{not-master}
+use Rattle.segment.proofs.Deliveries.{stands-on}
+
+-- a Master whose time has come advertises
+fires-in : (s : State) (primary : ℕ) (r : Router) (ticks : ℕ) → r .state ≡ s → s ≡ Master → r .timer ≤ ticks
+    → tickedIn s primary r ticks .outcome ≡ advertises r
+unfolding stepOf
+fires-in Initialize primary r ticks e m h = absurd (let z : _≡_ {A = ℕ} 0 1 = cc in omega arith)
+fires-in Backup primary r ticks e m h = absurd (not-master m)
+fires-in Master primary r ticks e m h = rw (le-ltb ticks (r .timer) h, e)
+
+fires : (primary : ℕ) (r : Router) (ticks : ℕ) → r .state ≡ Master → r .timer ≤ ticks
+    → tickedOf primary r ticks .outcome ≡ advertises r
+unfolding tickedOf
+fires primary r ticks m h = fires-in (r .state) primary r ticks refl m h
+
+-- the room after the clock step that fires
+fired-room : (words lists : List ℕ) (v p ticks : ℕ) (room : List ℕ) → routerPlace words v ≡ At p → recordAt words p .state ≡ Master
+    → recordAt words p .timer ≤ ticks → 114 ≤ length room
+    → clockedOf words lists v ticks room .room
+    ≡ over (bytesOf Advertisement (recordAt words p) (primaryOf words) (listAt lists p (recordAt words p .count))) room
+unfolding actedOf
+fired-room words lists v p ticks room found master late large =
+    let r = recordAt words p in
+    let t = tickedOf (primaryOf words) r ticks in
+    let few = read-in-range words p .count in
+    ap (λ (x : Result). x .room) (sym (clocked words lists v p ticks t room found refl))
+    ∙ rw (fires (primaryOf words) r ticks master late, le-ltb (length room) (50 + 4 * r .count) (omega (arith, few)))
+
+pub own-writing : OwnWriting
+own-writing vrid interval addresses m ticks room stands master late large =
+    let r = routerOf vrid m in
+    let list = addressesOf vrid m in
+    let frame = bytesOf Advertisement r (primaryOf (m .words)) list in
+    let long = frame-length (r .vrid) (r .priority) (r .interval) (primaryOf (m .words)) list in
+    ap (λ (x : List ℕ). drop 14 (take (50 + length addresses) x))
+    (fired-room (m .words) (m .lists) vrid (placeAt vrid (m .words)) ticks room
+    (stands-on vrid interval addresses m stands .found) master late large)
+    ∙ ap (drop 14)
+    (take-at frame (drop (length frame) room) (50 + length addresses)
+    (long ∙ ap (λ (x : List ℕ). 50 + length x) (stands .addresses-are)))
