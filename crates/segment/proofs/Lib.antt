@@ -5,3 +5,5 @@ pub mod Ranks
 pub mod Deliveries
 pub mod Theorems
 pub mod Writing
+pub mod Computed
+pub mod Sixteen
