@@ -39,7 +39,11 @@ use Rattle.segment.specs.Examples.{virtualAddress, Kind, idle, waiting, 
 use Rattle.segment.specs.Examples.{deliver, fromOne, fromSome, deliveries, Met, Needed}
 
 pub needed : Needed
-unfolding emptyOf configureRefusal addressBytesWrong setRecord placeOf placeFrom routerPlace recordAt decodeOf encodeOf setList listAt theirList listsMatch happenedOf clockedOf heardOf actedOf stepOf tickedOf routerRefusal masterDownOf advertisementIntervalOf primaryOf judgedOf fieldsOf refusalOf causeOf headerSumWrong notOurs versionWrong tooShort messageSumWrong plus sumOf messageChecksum messageOf headerChecksum headerOf packetOf frameOf
+unfolding emptyOf configureRefusal addressBytesWrong setRecord placeOf placeFrom routerPlace recordAt decodeOf
+    encodeOf setList listAt theirList listsMatch happenedOf clockedOf heardOf actedOf stepOf tickedOf
+    routerRefusal masterDownOf advertisementIntervalOf primaryOf judgedOf fieldsOf refusalOf causeOf
+    headerSumWrong notOurs versionWrong tooShort messageSumWrong plus sumOf messageChecksum messageOf
+    headerChecksum headerOf packetOf frameOf
 needed = record { owners = refl; primary = refl; interval = refl; list = refl; missing = refl }
 
 -- the state that a station of the row has come to
@@ -71,15 +75,21 @@ module _ (primary : ℕ) where
       × (primaryAddress m ≡ primary) × (routerOf 1 m .priority ≡ 100) × (routerOf 1 m .state ≡ stateOf k)
 
   plain-idle : Plain idle (stationOf idle primary)
-  unfolding emptyOf configureRefusal addressBytesWrong setRecord placeOf placeFrom routerPlace recordAt decodeOf encodeOf setList listAt primaryOf happenedOf clockedOf actedOf stepOf tickedOf masterDownOf advertisementIntervalOf
+  unfolding emptyOf configureRefusal addressBytesWrong setRecord placeOf placeFrom routerPlace recordAt
+      decodeOf encodeOf setList listAt primaryOf happenedOf clockedOf actedOf stepOf tickedOf masterDownOf
+      advertisementIntervalOf
   plain-idle = (refl, refl, refl, refl, refl, refl)
 
   plain-waiting : Plain waiting (stationOf waiting primary)
-  unfolding emptyOf configureRefusal addressBytesWrong setRecord placeOf placeFrom routerPlace recordAt decodeOf encodeOf setList listAt primaryOf happenedOf clockedOf actedOf stepOf tickedOf masterDownOf advertisementIntervalOf
+  unfolding emptyOf configureRefusal addressBytesWrong setRecord placeOf placeFrom routerPlace recordAt
+      decodeOf encodeOf setList listAt primaryOf happenedOf clockedOf actedOf stepOf tickedOf masterDownOf
+      advertisementIntervalOf
   plain-waiting = (refl, refl, refl, refl, refl, refl)
 
   plain-leading : Plain leading (stationOf leading primary)
-  unfolding emptyOf configureRefusal addressBytesWrong setRecord placeOf placeFrom routerPlace recordAt decodeOf encodeOf setList listAt primaryOf happenedOf clockedOf actedOf stepOf tickedOf masterDownOf advertisementIntervalOf
+  unfolding emptyOf configureRefusal addressBytesWrong setRecord placeOf placeFrom routerPlace recordAt
+      decodeOf encodeOf setList listAt primaryOf happenedOf clockedOf actedOf stepOf tickedOf masterDownOf
+      advertisementIntervalOf
   plain-leading = (refl, refl, refl, refl, refl, refl)
 
   pub plain : (k : Kind) → Plain k (stationOf k primary)
