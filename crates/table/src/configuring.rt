@@ -69,7 +69,7 @@ fn configure_refusal(words: &[u32], vrid: u8, priority: u8, interval: u8, addres
 }
 
 // A router that was configured just now.
-fn new_router(vrid: u8, priority: u8, interval: u8, preempt: bool, count: u8) -> Router
+pub fn new_router(vrid: u8, priority: u8, interval: u8, preempt: bool, count: u8) -> Router
     ensures { λ r. ⌜ r ≡ newRouter vrid priority interval preempt count ⌝ }
 {
     Router {
@@ -103,7 +103,7 @@ fn fill(words: &mut [u32], lists: &mut [u8], place: usize, fresh: Router, addres
 }
 
 // How many addresses these bytes are.
-fn address_count(addresses: &[u8]) -> u8
+pub fn address_count(addresses: &[u8]) -> u8
     requires { ⌜ length (now addresses) ≤ 64 ⌝ }
     ensures { λ n. ⌜ n ≡ length (now (addresses .entry)) / 4 ⌝ }
 {

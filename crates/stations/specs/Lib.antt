@@ -1,0 +1,5 @@
+pub mod Station
+pub mod Making
+pub mod Acting
+pub mod Hearing
+pub mod Steps
