@@ -12,14 +12,20 @@ use Rattle.router.specs.declared.step.Event.the-variants.{Packet}
 use Rattle.router.specs.declared.step.Outcome.{Outcome}
 use Rattle.router.specs.Step.{counted, stepOf}
 use Rattle.router.specs.Accept.{routerRefusal, refusedOf, acceptedOf}
+use Rattle.table.specs.declared.answer.Answered.the-variants.{Refused as CallRefused}
 use Rattle.table.specs.Lists.{theirList, listsMatch}
 use Rattle.stations.specs.declared.station.Station.{Station}
+use Rattle.stations.specs.declared.station.Stepped.{Stepped}
 use Rattle.stations.specs.Station.{Result, refuses, listOf, withRouter, withRefusals}
 use Rattle.stations.specs.Acting.{actedBy}
 
 -- "Refusals 1 to 9 add one to that interface count"
 unfoldable pub countedBy : Station → ℕ → Station
 countedBy s number = withRefusals s (set (s .refusals) (number - 1) (counted (getD (s .refusals) (number - 1) 0)))
+
+-- such a refusal
+abbrev pub refusedBy : Station → ℕ → Stepped
+refusedBy s number = record { station = countedBy s number; answer = CallRefused number }
 
 -- the first of refusals 10 to 13 that a station's router gives a packet, 0 where there is none
 unfoldable pub refusalBy : Station → List ℕ → Fields → ℕ

@@ -65,7 +65,7 @@ pub fn act(s: Station, outcome: Outcome, leftover: u32, out: &mut [u8]) -> Stepp
     if needed == 0 {
         return Stepped {
             station: after,
-            answer: Answered::Done(0, leftover),
+            answer: Answered::Done(needed, leftover),
         };
     }
     let sent = 50 + end;

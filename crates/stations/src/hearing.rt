@@ -18,7 +18,7 @@ ghost use mathlib.Core.Path.{_≡_};
 ghost use Prim.Native.Nat.{_+_, _*_, _≤_};
 ghost use lib.ListN.{length};
 ghost use Rattle.stations.specs.Station.{Leaves};
-ghost use Rattle.stations.specs.Hearing.{countedBy, refusalBy, acceptedBy, soughtBy, heardBy};
+ghost use Rattle.stations.specs.Hearing.{countedBy, refusedBy, refusalBy, acceptedBy, soughtBy, heardBy};
 
 // The station with a refusal of 1 to 9 counted.
 fn count_number(s: Station, number: u32) -> Station
@@ -36,8 +36,7 @@ fn count_number(s: Station, number: u32) -> Station
 // Refuses by 1 to 9, which counts.
 fn refuse(s: Station, number: u32) -> Stepped
     requires { ⌜ (1 ≤ number) × (number ≤ 9) ⌝ }
-    ensures station { λ r. ⌜ r .station ≡ countedBy s number ⌝ }
-    ensures answer { λ r. ⌜ r .answer ≡ Answered.Refused number ⌝ }
+    ensures { λ r. ⌜ r ≡ refusedBy s number ⌝ }
 {
     let station = count_number(s, number);
     Stepped {

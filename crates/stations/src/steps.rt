@@ -8,6 +8,7 @@ use router::step::step;
 use table::answer::Answered;
 ghost use mathlib.Core.Path.{_≡_};
 ghost use mathlib.Core.Bool.{cond};
+ghost use Prim.Native.Nat.{_≤_};
 ghost use lib.Dec.{ltb};
 ghost use Rattle.router.specs.declared.step.Event.the-variants.{Startup, Shutdown};
 ghost use Rattle.stations.specs.Station.{Leaves};
@@ -47,7 +48,8 @@ pub fn clock(s: Station, ticks: u32, out: &mut [u8]) -> Stepped
 
 // The lesser of two numbers.
 fn lesser(a: usize, b: usize) -> usize
-    ensures { λ r. ⌜ r ≡ cond (ltb a b) a b ⌝ }
+    ensures number { λ r. ⌜ r ≡ cond (ltb a b) a b ⌝ }
+    ensures bound { λ r. ⌜ (r ≤ a) × (r ≤ b) ⌝ }
 {
     if a < b { a } else { b }
 }

@@ -1,0 +1,4 @@
+pub mod Arrays
+pub mod Acted
+pub mod Heard
+pub mod Made
