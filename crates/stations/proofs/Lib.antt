@@ -2,3 +2,5 @@ pub mod Arrays
 pub mod Acted
 pub mod Heard
 pub mod Made
+pub mod Tables
+pub mod Theorems

@@ -3,3 +3,5 @@ pub mod Making
 pub mod Acting
 pub mod Hearing
 pub mod Steps
+pub mod Tables
+pub mod Theorems

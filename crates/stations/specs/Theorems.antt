@@ -1,0 +1,78 @@
+-- The theorems of this crate, as statements: each is proved under the same name in proofs/Theorems.antt.
+use Prim.Native.Nat.{ℕ, _+_}
+use mathlib.Core.Path.{_≡_}
+use mathlib.Core.List.{List}
+use mathlib.Core.Bool.{Bool}
+use lib.ListN.{length, take, replicate}
+use Rattle.router.specs.declared.step.Event.{Event}
+use Rattle.table.specs.declared.answer.Answered.the-variants.{Done}
+use Rattle.table.specs.Result.{answerNumber}
+use Rattle.table.specs.Configuring.{emptyOf, configureRefusal, configuredWords, configuredLists}
+use Rattle.table.specs.Events.{happenedOf, clockedOf}
+use Rattle.table.specs.Packets.{heardOf}
+use Rattle.stations.specs.declared.station.Station.{Station}
+use Rattle.stations.specs.declared.station.Stepped.{Stepped}
+use Rattle.stations.specs.Station.{Result, Leaves, listOf}
+use Rattle.stations.specs.Making.{madeOf}
+use Rattle.stations.specs.Hearing.{heardBy}
+use Rattle.stations.specs.Steps.{happenedTo, clockedBy}
+use Rattle.stations.specs.Tables.{wordsOf, listsOf, inTable, WellFormed}
+
+-- two outcomes that the promise of a step allows are equal
+abbrev pub OneStep : Type 0
+OneStep =
+    (result : Result) (a b : Stepped) (room other : List ℕ) → Leaves result a room → Leaves result b other
+    → (a ≡ b) × (room ≡ other)
+
+-- "Each station is a table of one router": startup and shutdown leave what the table's call leaves
+abbrev pub EventInTable : Type 0
+EventInTable =
+    (s : Station) (event : Event) (room : List ℕ) → WellFormed s
+    → happenedOf (wordsOf s) (listsOf s) (s .router .vrid) event room ≡ inTable (happenedTo s event room)
+
+-- and a clock step
+abbrev pub ClockInTable : Type 0
+ClockInTable =
+    (s : Station) (ticks : ℕ) (room : List ℕ) → WellFormed s
+    → clockedOf (wordsOf s) (listsOf s) (s .router .vrid) ticks room ≡ inTable (clockedBy s ticks room)
+
+-- and a packet
+abbrev pub PacketInTable : Type 0
+PacketInTable =
+    (s : Station) (packet room : List ℕ) → WellFormed s
+    → heardOf (wordsOf s) (listsOf s) packet room ≡ inTable (heardBy s packet room)
+
+-- a station just configured is the empty table with that router configured, and is refused by the same number
+abbrev pub MadeInTable : Type 0
+MadeInTable =
+    (vrid priority interval : ℕ) (preempt : Bool) (primary : ℕ) (addresses : List ℕ)
+    → (answerNumber (madeOf vrid priority interval preempt primary addresses .answer)
+    ≡ configureRefusal (emptyOf primary) vrid priority interval addresses)
+    × (wordsOf (madeOf vrid priority interval preempt primary addresses .station)
+    ≡ configuredWords (emptyOf primary) vrid priority interval preempt addresses)
+    × (listsOf (madeOf vrid priority interval preempt primary addresses .station)
+    ≡ configuredLists (emptyOf primary) (replicate 16320 0) vrid priority interval addresses)
+
+-- what a step leaves of a station's addresses and of its latest advertisement frame
+pub record Keeps (s : Station) (r : Result) : Type 0 where
+  -- the addresses stay
+  pub lists : r .station .addresses ≡ s .addresses
+  -- where anything is written, the frame is what stands at the start of the room
+  pub written : (bytes leftover : ℕ) → r .answer ≡ Done bytes leftover → ¬ (bytes ≡ 0)
+      → (r .station .sent ≡ 50 + length (listOf s))
+      × (take (r .station .sent) (r .station .frame) ≡ take (r .station .sent) (r .room))
+  -- and else it stays
+  pub silent : ((bytes leftover : ℕ) → r .answer ≡ Done bytes leftover → bytes ≡ 0)
+      → (r .station .sent ≡ s .sent) × (r .station .frame ≡ s .frame)
+
+-- "the latest advertisement frame of from": startup and shutdown
+abbrev pub EventKeeps : Type 0
+EventKeeps = (s : Station) (event : Event) (room : List ℕ) → WellFormed s → Keeps s (happenedTo s event room)
+
+-- and a clock step
+abbrev pub ClockKeeps : Type 0
+ClockKeeps = (s : Station) (ticks : ℕ) (room : List ℕ) → WellFormed s → Keeps s (clockedBy s ticks room)
+
+-- and a packet
+abbrev pub PacketKeeps : Type 0
+PacketKeeps = (s : Station) (packet room : List ℕ) → WellFormed s → Keeps s (heardBy s packet room)
