@@ -4,3 +4,5 @@ pub mod Heard
 pub mod Made
 pub mod Tables
 pub mod Theorems
+pub mod Keeping
+pub mod Begun

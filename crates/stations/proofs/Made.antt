@@ -7,7 +7,7 @@ use Prim.Native.Nat.{ℕ, _/_, _%_, _≤_}
 use native.Mathlib.Omega.{arith}
 use lib.Dec.{eqb, ltb}
 use lib.ListN.{length, replicate}
-use borrow.Author.Tests.{eq-eqb, ne-eqb, ltb-false}
+use borrow.Author.Tests.{eq-eqb, ne-eqb, eqb-false, ltb-false}
 use Rattle.wire.specs.Writing.{addressBytesWrong}
 use Rattle.wire.proofs.Checks.{passed}
 use Rattle.wire.proofs.Tested.{two-passed}
@@ -25,6 +25,12 @@ module _ (v priority interval : ℕ) (preempt : Bool) (primary : ℕ) (addresses
       let p = passed (stationChecks v priority interval addresses) (omega arith) e in
       let n = length addresses in
       ltb-false 64 n (two-passed (not (eqb (n % 4) 0) || eqb n 0) (ltb 64 n) (p .1 .1 .1 .0) .1)
+
+  pub made-named : stationRefusal v priority interval addresses ≡ 0 → ¬ (v ≡ 0)
+  unfolding stationRefusal
+  made-named e =
+      let p = passed (stationChecks v priority interval addresses) (omega arith) e in
+      eqb-false v 0 (p .0)
 
   pub made-refused : (number : ℕ) (station : Station) → number ≡ stationRefusal v priority interval addresses → ¬ (number ≡ 0)
       → station ≡ stationOf primary freed (replicate 64 0)

@@ -54,21 +54,9 @@ count-front x a b z k h =
     let stored = set-append-left (a ++ b) z k v inside ∙ ap (λ (l : List ℕ). l ++ z) (set-append-left a b k v h) in
     ap (λ (l : List ℕ). x ∷ l) (ap (λ (n : ℕ). set (a ++ b ++ z) k (counted n)) read ∙ stored)
 
-module _ (s : Station) (w : WellFormed s) where
+module _ (s : Station) (nine : length (s .refusals) ≡ 9) where
   interface-length : length (interfaceOf s) ≡ 16
-  interface-length = omega (arith, length-append (s .refusals) (replicate 6 0), w .refusals)
-
-  words-length : length (wordsOf s) ≡ 4096
-  unfolding wordsOf
-  words-length =
-      omega (
-        arith,
-        interface-length,
-        encode-length (s .router),
-        length-append (interfaceOf s) (encodeOf (s .router) ++ replicate 4064 0),
-        length-append (encodeOf (s .router)) (replicate 4064 0),
-        length-replicate {A = ℕ} 4064 0,
-      )
+  interface-length = omega (arith, length-append (s .refusals) (replicate 6 0))
 
   -- storing a record at the first place is storing it in the station
   pub store-first : (r : Router) → setRecord (wordsOf s) 0 r ≡ wordsOf (withRouter s r)
@@ -77,18 +65,31 @@ module _ (s : Station) (w : WellFormed s) where
       paste-middle (interfaceOf s) (encodeOf (s .router)) (replicate 4064 0) (encodeOf r) 16 16 interface-length
       (encode-length (s .router)) (encode-length r)
 
+module _ (s : Station) (w : WellFormed s) where
+  words-length : length (wordsOf s) ≡ 4096
+  unfolding wordsOf
+  words-length =
+      omega (
+        arith,
+        interface-length s (w .refusals),
+        encode-length (s .router),
+        length-append (interfaceOf s) (encodeOf (s .router) ++ replicate 4064 0),
+        length-append (encodeOf (s .router)) (replicate 4064 0),
+        length-replicate {A = ℕ} 4064 0,
+      )
+
   in-range : InRange (s .router)
   in-range = record { vrid = w .vrid; priority = w .priority; interval = w .interval; count = w .count }
 
   -- the record at the first place is the station's router
   pub first-record : recordAt (wordsOf s) 0 ≡ s .router
   first-record =
-      ap (λ (x : List ℕ). recordAt x 0) (sym (store-first (s .router)))
+      ap (λ (x : List ℕ). recordAt x 0) (sym (store-first s (w .refusals) (s .router)))
       ∙ record-same (wordsOf s) 0 (s .router) (omega arith) words-length in-range
 
   first-word : getD (wordsOf s) (baseOf 0) 0 ≡ s .router .vrid
   first-word =
-      ap (λ (x : List ℕ). getD x (baseOf 0) 0) (sym (store-first (s .router)))
+      ap (λ (x : List ℕ). getD x (baseOf 0) 0) (sym (store-first s (w .refusals) (s .router)))
       ∙ first-same (wordsOf s) 0 (s .router) (omega arith) words-length
 
   pub primary-is : primaryOf (wordsOf s) ≡ s .primary
@@ -107,8 +108,8 @@ module _ (s : Station) (w : WellFormed s) where
   free-word p h =
       let e : baseOf (suc p) ≡ 16 + 16 + 16 * p = omega arith in
       ap (λ (k : ℕ). getD (wordsOf s) k 0) e
-      ∙ zero-behind (interfaceOf s) (encodeOf (s .router)) 16 16 4064 (16 * p) interface-length (encode-length (s .router))
-      (omega arith)
+      ∙ zero-behind (interfaceOf s) (encodeOf (s .router)) 16 16 4064 (16 * p) (interface-length s (w .refusals))
+      (encode-length (s .router)) (omega arith)
 
   -- and no other is found
   no-other : (v p : ℕ) → ¬ (v ≡ s .router .vrid) → p < 255 → getD (wordsOf s) (baseOf p) 0 ≡ v → v ≡ 0

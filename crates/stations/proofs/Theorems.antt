@@ -69,7 +69,7 @@ module _ (s : Station) (w : WellFormed s) where
   acted-in-table o leftover room same =
       let long : 4 * o .router .count ≡ length (listOf s) = omega (arith, list-length s (w .addresses), few s w) in
       let list : listAt (listsOf s) 0 (o .router .count) ≡ listOf s = ap (listAt (listsOf s) 0) same ∙ first-list s w in
-      rw (long, list, store-first s w (o .router), primary-is s w, ← kept-words s o)
+      rw (long, list, store-first s (w .refusals) (o .router), primary-is s w, ← kept-words s o)
       (either-in-table (ltb (length room) (neededBy s o)) _ _ _ _ refl refl)
 
   refusal-same : (packet : List ℕ) (f : Fields) → refusalAt (wordsOf s) (listsOf s) 0 packet f ≡ refusalBy s packet f
@@ -88,7 +88,7 @@ module _ (s : Station) (w : WellFormed s) where
         refusal-same packet f,
         accepted-same f,
         first-record s w,
-        store-first s w (refusedOf (s .router) number),
+        store-first s (w .refusals) (refusedOf (s .router) number),
         acted-in-table (acceptedOutcome s f) 0 room same,
       )
       (either-in-table (eqb number 0) _ _ _ _ refl refl)

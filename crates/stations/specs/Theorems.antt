@@ -1,5 +1,5 @@
 -- The theorems of this crate, as statements: each is proved under the same name in proofs/Theorems.antt.
-use Prim.Native.Nat.{ℕ, _+_}
+use Prim.Native.Nat.{ℕ, _+_, _<_}
 use mathlib.Core.Path.{_≡_}
 use mathlib.Core.List.{List}
 use mathlib.Core.Bool.{Bool}
@@ -13,7 +13,7 @@ use Rattle.table.specs.Packets.{heardOf}
 use Rattle.stations.specs.declared.station.Station.{Station}
 use Rattle.stations.specs.declared.station.Stepped.{Stepped}
 use Rattle.stations.specs.Station.{Result, Leaves, listOf}
-use Rattle.stations.specs.Making.{madeOf}
+use Rattle.stations.specs.Making.{stationRefusal, madeOf}
 use Rattle.stations.specs.Hearing.{heardBy}
 use Rattle.stations.specs.Steps.{happenedTo, clockedBy}
 use Rattle.stations.specs.Tables.{wordsOf, listsOf, inTable, WellFormed}
@@ -53,10 +53,9 @@ MadeInTable =
     × (listsOf (madeOf vrid priority interval preempt primary addresses .station)
     ≡ configuredLists (emptyOf primary) (replicate 16320 0) vrid priority interval addresses)
 
--- what a step leaves of a station's addresses and of its latest advertisement frame
+-- what a step leaves of a station's addresses, and so of the table's lists, and of its latest advertisement frame
 pub record Keeps (s : Station) (r : Result) : Type 0 where
-  -- the addresses stay
-  pub lists : r .station .addresses ≡ s .addresses
+  pub addresses : r .station .addresses ≡ s .addresses
   -- where anything is written, the frame is what stands at the start of the room
   pub written : (bytes leftover : ℕ) → r .answer ≡ Done bytes leftover → ¬ (bytes ≡ 0)
       → (r .station .sent ≡ 50 + length (listOf s))
@@ -67,12 +66,31 @@ pub record Keeps (s : Station) (r : Result) : Type 0 where
 
 -- "the latest advertisement frame of from": startup and shutdown
 abbrev pub EventKeeps : Type 0
-EventKeeps = (s : Station) (event : Event) (room : List ℕ) → WellFormed s → Keeps s (happenedTo s event room)
+EventKeeps = (s : Station) (event : Event) (room : List ℕ) → Keeps s (happenedTo s event room)
 
 -- and a clock step
 abbrev pub ClockKeeps : Type 0
-ClockKeeps = (s : Station) (ticks : ℕ) (room : List ℕ) → WellFormed s → Keeps s (clockedBy s ticks room)
+ClockKeeps = (s : Station) (ticks : ℕ) (room : List ℕ) → Keeps s (clockedBy s ticks room)
+
+-- and a packet, delivered ones among them
+abbrev pub PacketKeeps : Type 0
+PacketKeeps = (s : Station) (packet room : List ℕ) → Keeps s (heardBy s packet room)
+
+-- a well formed station stays so: startup and shutdown
+abbrev pub EventStays : Type 0
+EventStays = (s : Station) (event : Event) (room : List ℕ) → WellFormed s → WellFormed (happenedTo s event room .station)
+
+-- and a clock step
+abbrev pub ClockStays : Type 0
+ClockStays = (s : Station) (ticks : ℕ) (room : List ℕ) → WellFormed s → WellFormed (clockedBy s ticks room .station)
 
 -- and a packet
-abbrev pub PacketKeeps : Type 0
-PacketKeeps = (s : Station) (packet room : List ℕ) → WellFormed s → Keeps s (heardBy s packet room)
+abbrev pub PacketStays : Type 0
+PacketStays = (s : Station) (packet room : List ℕ) → WellFormed s → WellFormed (heardBy s packet room .station)
+
+-- and a station that was not refused is well formed from the start: "VRID, priority and interval come as bytes"
+abbrev pub MadeWellFormed : Type 0
+MadeWellFormed =
+    (vrid priority interval : ℕ) (preempt : Bool) (primary : ℕ) (addresses : List ℕ) → vrid < 256 → priority < 256
+    → interval < 256 → stationRefusal vrid priority interval addresses ≡ 0
+    → WellFormed (madeOf vrid priority interval preempt primary addresses .station)

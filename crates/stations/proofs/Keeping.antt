@@ -1,0 +1,196 @@
+-- What steps leave of a station: its addresses and its latest advertisement frame, and that it is well formed.
+-- Assumes nothing.
+use mathlib.Core.Path.{_≡_, refl, sym, ap, _∙_}
+use mathlib.Core.List.{List}
+use mathlib.Core.Bool.{Bool, true, false, cond}
+use Prim.Native.Nat.{ℕ, _+_, _-_, _≤_}
+use native.Mathlib.Omega.{arith}
+use lib.Dec.{eqb, ltb}
+use lib.ListN.{length, take, drop, length-set}
+use lib.Seq.{length-take-le, take-append-seam, take-append-le}
+use borrow.Author.Tests.{eqb-true, eqb-false}
+use Rattle.wire.specs.declared.judging.Fields.{Fields}
+use Rattle.wire.specs.declared.judging.Judged.{Judged}
+use Rattle.wire.specs.declared.judging.Judged.the-variants.{Accepted, Refused}
+use Rattle.wire.specs.Writing.{over}
+use Rattle.wire.specs.Judging.{judgedOf}
+use Rattle.router.specs.declared.record.Router.{Router}
+use Rattle.router.specs.declared.step.Event.the-variants.{Packet}
+use Rattle.router.specs.declared.step.Outcome.{Outcome}
+use Rattle.router.specs.Step.{stepOf}
+use Rattle.router.specs.Clock.{tickedOf}
+use Rattle.router.specs.Accept.{acceptedOf, refusedOf}
+use Rattle.router.proofs.Kept.{Kept, step-keeps, ticked-keeps}
+use Rattle.output.proofs.Lengths.{bytes-length}
+use Rattle.table.specs.declared.answer.Answered.the-variants.{Done, Short, Refused as CallRefused}
+use Rattle.stations.specs.declared.station.Station.{Station}
+use Rattle.stations.specs.Station.{Result, refuses, listOf, withRouter, withFrame}
+use Rattle.stations.specs.Acting.{writtenBy, neededBy, actedBy}
+use Rattle.stations.specs.Hearing.{countedBy, refusalBy, acceptedOutcome, acceptedBy, soughtBy, judgedBy, heardBy}
+use Rattle.stations.specs.Steps.{happenedTo, clockedBy}
+use Rattle.stations.specs.Tables.{WellFormed}
+use Rattle.stations.specs.Theorems.{Keeps, EventKeeps, ClockKeeps, PacketKeeps, EventStays, ClockStays, PacketStays}
+use Rattle.stations.proofs.Acted.{advertisement-fits}
+
+-- a refusal that leaves addresses and frame
+refused-keeps : (s after : Station) (number : ℕ) (room : List ℕ) → after .addresses ≡ s .addresses → after .sent ≡ s .sent
+    → after .frame ≡ s .frame → Keeps s (refuses number after room)
+refused-keeps s after number room a b c =
+    record {
+      addresses = a;
+      written = λ bytes leftover e n. absurd (let z : _≡_ {A = ℕ} 0 1 = cc in omega arith);
+      silent = λ n. (b, c);
+    }
+
+either-keeps : (s : Station) (t : Bool) (a b : Result) → Keeps s a → Keeps s b → Keeps s (cond t a b)
+either-keeps s true a b x y = x
+either-keeps s false a b x y = y
+
+module _ (s : Station) (o : Outcome) (leftover : ℕ) (room : List ℕ) where
+  -- something is written
+  frame-keeps : ¬ (neededBy s o ≡ 0)
+      → Keeps s
+      (record {
+        answer = Done (neededBy s o) leftover;
+        station = withFrame (withRouter s (o .router)) (take (50 + length (listOf s)) (writtenBy s o));
+        room = over (writtenBy s o) room;
+      })
+  frame-keeps some =
+      let n = 50 + length (listOf s) in
+      let written = writtenBy s o in
+      let least = advertisement-fits (o .writes) (length (listOf s)) some in
+      let fits : n ≤ length written = omega (arith, bytes-length (o .writes) (o .router) (s .primary) (listOf s)) in
+      let long : length (take n written) ≡ n = length-take-le n written fits in
+      let kept = take-append-seam (take n written) (drop (length (take n written)) (s .frame)) in
+      let stands = ap (λ (k : ℕ). take k (over written room)) long ∙ take-append-le n written (drop (length written) room) fits in
+      record {
+        addresses = refl;
+        written = λ bytes left e m. (long, kept ∙ sym stands);
+        silent = λ h. absurd (some (h (neededBy s o) leftover refl));
+      }
+
+  acted-test : (t u : Bool) → eqb (neededBy s o) 0 ≡ u
+      → Keeps s
+      (cond t (record { answer = Short (neededBy s o); station = s; room = room })
+      (record {
+        answer = Done (neededBy s o) leftover;
+        station =
+            cond u (withRouter s (o .router))
+            (withFrame (withRouter s (o .router)) (take (50 + length (listOf s)) (writtenBy s o)));
+        room = over (writtenBy s o) room;
+      }))
+  acted-test true u e =
+      record {
+        addresses = refl;
+        written = λ bytes left h n. absurd (let z : _≡_ {A = ℕ} 0 1 = cc in omega arith);
+        silent = λ n. (refl, refl);
+      }
+  acted-test false true e =
+      record {
+        addresses = refl;
+        written = λ bytes left h n.
+            absurd (n (let z : bytes ≡ neededBy s o = cc in z ∙ eqb-true (neededBy s o) 0 e));
+        silent = λ n. (refl, refl);
+      }
+  acted-test false false e = frame-keeps (eqb-false (neededBy s o) 0 e)
+
+  acted-keeps : Keeps s (actedBy s o leftover room)
+  unfolding actedBy
+  acted-keeps = acted-test (ltb (length room) (neededBy s o)) (eqb (neededBy s o) 0) refl
+
+pub event-keeps : EventKeeps
+unfolding happenedTo
+event-keeps s event room = acted-keeps s (stepOf (s .primary) (s .router) event) 0 room
+
+pub clock-keeps : ClockKeeps
+unfolding clockedBy
+clock-keeps s ticks room =
+    let ticked = tickedOf (s .primary) (s .router) ticks in
+    acted-keeps s (ticked .outcome) (ticked .leftover) room
+
+counted-keeps : (s : Station) (number : ℕ) (room : List ℕ) → Keeps s (refuses number (countedBy s number) room)
+unfolding countedBy
+counted-keeps s number room = refused-keeps s (countedBy s number) number room refl refl refl
+
+judged-keeps : (j : Judged) (s : Station) (packet room : List ℕ) → Keeps s (judgedBy j s packet room)
+judged-keeps (Refused number) s packet room = counted-keeps s number room
+judged-keeps (Accepted f) s packet room =
+    let number = refusalBy s packet f in
+    either-keeps s (eqb (f .vrid) (s .router .vrid)) (acceptedBy s packet f room) _
+    (either-keeps s (eqb number 0) _ _ (acted-keeps s (acceptedOutcome s f) 0 room)
+    (refused-keeps s (withRouter s (refusedOf (s .router) number)) number room refl refl refl))
+    (counted-keeps s 9 room)
+
+pub packet-keeps : PacketKeeps
+unfolding heardBy
+packet-keeps s packet room = judged-keeps (judgedOf packet) s packet room
+
+either-stays : (t : Bool) (a b : Result) → WellFormed (a .station) → WellFormed (b .station)
+    → WellFormed (cond t a b .station)
+either-stays true a b x y = x
+either-stays false a b x y = y
+
+same-kept : (r after : Router) → after .vrid ≡ r .vrid → after .priority ≡ r .priority → after .interval ≡ r .interval
+    → after .preempt ≡ r .preempt → after .count ≡ r .count → Kept r after
+same-kept r after a b c d e = record { vrid = a; priority = b; interval = c; preempt = d; count = e }
+
+-- what is configured the same, with as many counts and the same addresses, is as well formed
+module _ (s : Station) (w : WellFormed s) where
+  well-kept : (after : Station) → Kept (s .router) (after .router) → length (after .refusals) ≡ length (s .refusals)
+      → after .addresses ≡ s .addresses → WellFormed after
+  well-kept after k n a =
+      record {
+        named = omega (arith, k .vrid, w .named);
+        vrid = omega (arith, k .vrid, w .vrid);
+        priority = omega (arith, k .priority, w .priority);
+        interval = omega (arith, k .interval, w .interval);
+        count = omega (arith, k .count, w .count);
+        refusals = n ∙ w .refusals;
+        addresses = ap length a ∙ w .addresses;
+      }
+
+  kept-stays : (t : Bool) (o : Outcome) (bytes : List ℕ) → Kept (s .router) (o .router)
+      → WellFormed (cond t (withRouter s (o .router)) (withFrame (withRouter s (o .router)) bytes))
+  kept-stays true o bytes k = well-kept (withRouter s (o .router)) k refl refl
+  kept-stays false o bytes k = well-kept (withFrame (withRouter s (o .router)) bytes) k refl refl
+
+  acted-stays : (o : Outcome) (leftover : ℕ) (room : List ℕ) → Kept (s .router) (o .router)
+      → WellFormed (actedBy s o leftover room .station)
+  unfolding actedBy
+  acted-stays o leftover room k =
+      either-stays (ltb (length room) (neededBy s o)) _ _ w
+      (kept-stays (eqb (neededBy s o) 0) o (take (50 + length (listOf s)) (writtenBy s o)) k)
+
+  counted-stays : (number : ℕ) → WellFormed (countedBy s number)
+  unfolding countedBy
+  counted-stays number =
+      well-kept (countedBy s number) (same-kept (s .router) (s .router) refl refl refl refl refl)
+      (length-set (s .refusals) (number - 1) _) refl
+
+  judged-stays : (j : Judged) (packet room : List ℕ) → WellFormed (judgedBy j s packet room .station)
+  judged-stays (Refused number) packet room = counted-stays number
+  judged-stays (Accepted f) packet room =
+      let number = refusalBy s packet f in
+      let refused = refusedOf (s .router) number in
+      let k = step-keeps (s .primary) (acceptedOf (s .router)) (Packet (f .priority) (f .source)) in
+      either-stays (eqb (f .vrid) (s .router .vrid)) (acceptedBy s packet f room) _
+      (either-stays (eqb number 0) _ _
+      (acted-stays (acceptedOutcome s f) 0 room
+      (same-kept (s .router) _ (k .vrid) (k .priority) (k .interval) (k .preempt) (k .count)))
+      (well-kept (withRouter s refused) (same-kept (s .router) refused refl refl refl refl refl) refl refl))
+      (counted-stays 9)
+
+pub event-stays : EventStays
+unfolding happenedTo
+event-stays s event room w =
+    acted-stays s w (stepOf (s .primary) (s .router) event) 0 room (step-keeps (s .primary) (s .router) event)
+
+pub clock-stays : ClockStays
+unfolding clockedBy
+clock-stays s ticks room w =
+    let ticked = tickedOf (s .primary) (s .router) ticks in
+    acted-stays s w (ticked .outcome) (ticked .leftover) room (ticked-keeps (s .primary) (s .router) ticks)
+
+pub packet-stays : PacketStays
+unfolding heardBy
+packet-stays s packet room w = judged-stays s w (judgedOf packet) packet room
