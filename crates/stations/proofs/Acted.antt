@@ -20,7 +20,8 @@ use Rattle.stations.specs.Station.{Result, Leaves, listOf, withRouter, w
 use Rattle.stations.specs.Acting.{writtenBy, neededBy, actedBy}
 
 -- a promise of one result is one of an equal result
-pub leaves-equal : {a b : Result} (stepped : Stepped) (room : List ℕ) → a ≡ b → Leaves a stepped room → Leaves b stepped room
+pub leaves-equal : {a b : Result} (stepped : Stepped) (room : List ℕ) → a ≡ b → Leaves a stepped room
+    → Leaves b stepped room
 leaves-equal stepped room e h = subst (λ (x : Result). Leaves x stepped room) e h
 
 -- where anything is written, an advertisement is
@@ -31,13 +32,15 @@ advertisement-fits Farewell n h = omega arith
 advertisement-fits Takeover n h = omega arith
 
 module _ (s : Station) (o : Outcome) (leftover : ℕ) (room : List ℕ) (need : ℕ) (is-need : need ≡ neededBy s o) where
-  pub acted-short : length room < need → Leaves (actedBy s o leftover room) (record { station = s; answer = Short need }) room
+  pub acted-short : length room < need
+      → Leaves (actedBy s o leftover room) (record { station = s; answer = Short need }) room
   unfolding actedBy
   acted-short h =
       let t = lt-ltb (length room) need h in
       record { answer-is = rw (← is-need, t); station-is = rw (← is-need, t); room-is = rw (← is-need, t) }
 
-  module _ (station : Station) (after : List ℕ) (fits : need ≤ length room) (wrote : after ≡ over (writtenBy s o) room) where
+  module _ (station : Station) (after : List ℕ) (fits : need ≤ length room)
+      (wrote : after ≡ over (writtenBy s o) room) where
     pub acted-silent : need ≡ 0 → station ≡ withRouter s (o .router)
         → Leaves (actedBy s o leftover room) (record { station = station; answer = Done need leftover }) after
     unfolding actedBy

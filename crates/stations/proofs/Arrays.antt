@@ -18,7 +18,8 @@ pub array-long : (l : List ℕ) (n : ℕ) → length (map (λ (v : ℕ). v) l) �
 array-long l n e = sym (length-map l (λ (v : ℕ). v)) ∙ e
 
 -- the virtual addresses
-pub part-is-list : (s : Station) (end : ℕ) → end ≡ 4 * (s .router .count % 17) → take (end - 0) (drop 0 (s .addresses)) ≡ listOf s
+pub part-is-list : (s : Station) (end : ℕ) → end ≡ 4 * (s .router .count % 17)
+    → take (end - 0) (drop 0 (s .addresses)) ≡ listOf s
 unfolding listOf
 part-is-list s end e =
     let k : end - 0 ≡ 4 * (s .router .count % 17) = omega arith in
@@ -41,13 +42,15 @@ drop-of-take (suc m) zero l = ap (λ (k : ℕ). take k (drop (suc m) l)) (sym (z
 drop-of-take (suc m) (suc n) [] = sym (take-none (suc n - suc m))
 drop-of-take (suc m) (suc n) (x ∷ l) = drop-of-take m n l ∙ ap (λ (k : ℕ). take k (drop m l)) (sym (suc-sub-suc n m))
 
-take-lesser : (t : Bool) (sent n : ℕ) (l : List ℕ) → ltb sent n ≡ t → length l ≡ n → take (cond t sent n) l ≡ take sent l
+take-lesser : (t : Bool) (sent n : ℕ) (l : List ℕ) → ltb sent n ≡ t → length l ≡ n
+    → take (cond t sent n) l ≡ take sent l
 take-lesser true sent n l e long = refl
 take-lesser false sent n l e long =
     let most = ltb-false sent n e in
     take-all n l (omega arith) ∙ sym (take-all sent l (omega arith))
 
-drop-lesser : (t : Bool) (head n : ℕ) (l : List ℕ) → ltb head n ≡ t → drop (cond t head n) (take n l) ≡ drop head (take n l)
+drop-lesser : (t : Bool) (head n : ℕ) (l : List ℕ) → ltb head n ≡ t
+    → drop (cond t head n) (take n l) ≡ drop head (take n l)
 drop-lesser true head n l e = refl
 drop-lesser false head n l e =
     let most = ltb-false head n e in
@@ -55,7 +58,8 @@ drop-lesser false head n l e =
     let shorter : length (take n l) ≤ head = omega arith in
     drop-of-length-le (take n l) short ∙ sym (drop-of-length-le (take n l) shorter)
 
-pub part-is-packet : (s : Station) (start end : ℕ) → length (s .frame) ≡ 114 → end ≡ cond (ltb (s .sent) 114) (s .sent) 114
+pub part-is-packet : (s : Station) (start end : ℕ) → length (s .frame) ≡ 114
+    → end ≡ cond (ltb (s .sent) 114) (s .sent) 114
     → start ≡ cond (ltb 14 end) 14 end → take (end - start) (drop start (s .frame)) ≡ packetOf s
 unfolding packetOf
 part-is-packet s start end long e b =

@@ -3,11 +3,11 @@
 use mathlib.Core.Path.{_≡_, refl, sym, ap, _∙_}
 use mathlib.Core.List.{List, _∷_, _++_, append-assoc}
 use mathlib.Core.Bool.{Bool, true, false, cond}
-use Prim.Native.Nat.{ℕ, zero, suc, _+_, _/_, _%_, _≤_, _<_}
+use Prim.Native.Nat.{ℕ, zero, suc, _+_, _/_, _≤_, _<_}
 use native.Mathlib.Nat.{zero-add, suc-add}
 use native.Mathlib.Omega.{arith}
 use lib.Dec.{eqb}
-use lib.ListN.{length, getD, take, drop, replicate, length-append, length-drop}
+use lib.ListN.{length, getD, drop, replicate, length-append, length-drop}
 use lib.Seq.{take-all, drop-append-le}
 use borrow.Author.Tests.{eqb-true, eqb-false}
 use Rattle.router.specs.declared.record.Router.{Router}
@@ -19,13 +19,12 @@ use Rattle.places.proofs.Finding.{find-hit, found}
 use Rattle.table.specs.declared.answer.Answered.the-variants.{Done, Refused}
 use Rattle.table.specs.Lists.{setList}
 use Rattle.table.specs.Result.{answerNumber}
-use Rattle.table.specs.Configuring.{emptyOf, newRouter, freed, configureRefusal, configuredWords, configuredLists, placeIn}
+use Rattle.table.specs.Configuring.{emptyOf, newRouter, freed, configureRefusal}
 use Rattle.table.proofs.Begun.{empty-record, empty-held}
-use Rattle.stations.specs.declared.station.Station.{Station}
 use Rattle.stations.specs.declared.station.Stepped.{Stepped}
-use Rattle.stations.specs.Station.{stationOf, withRouter}
+use Rattle.stations.specs.Station.{stationOf}
 use Rattle.stations.specs.Making.{stationRefusal, addressesIn, madeOf}
-use Rattle.stations.specs.Tables.{wordsOf, listsOf, WellFormed}
+use Rattle.stations.specs.Tables.{wordsOf, listsOf}
 use Rattle.stations.specs.Theorems.{MadeInTable, MadeWellFormed}
 use Rattle.stations.proofs.Made.{made-most, made-named}
 use Rattle.stations.proofs.Tables.{store-first}
@@ -45,7 +44,8 @@ blank-lists : zeros 64 ++ zeros 16256 ≡ zeros 16320
 blank-lists = zeros-are 64 16256 16320 (omega arith)
 
 -- where nothing is refused, the address bytes stand in the first list
-first-list : (addresses : List ℕ) → length addresses ≤ 64 → addressesIn addresses ++ zeros 16256 ≡ setList (zeros 16320) 0 addresses
+first-list : (addresses : List ℕ) → length addresses ≤ 64
+    → addressesIn addresses ++ zeros 16256 ≡ setList (zeros 16320) 0 addresses
 unfolding setList
 first-list addresses most =
     let n = length addresses in
@@ -60,7 +60,8 @@ module _ (primary : ℕ) where
   unfolding wordsOf emptyOf encodeOf
   blank-words =
       ap (λ (l : List ℕ). primary ∷ l)
-      (ap (λ (l : List ℕ). zeros 15 ++ l) (zeros-are 16 4064 4080 (omega arith)) ∙ zeros-are 15 4080 4095 (omega arith))
+      (ap (λ (l : List ℕ). zeros 15 ++ l) (zeros-are 16 4064 4080 (omega arith))
+      ∙ zeros-are 15 4080 4095 (omega arith))
 
   -- every place is free
   free-word : (p : ℕ) → p < 255 → getD (emptyOf primary) (baseOf p) 0 ≡ 0
@@ -79,14 +80,16 @@ module _ (primary : ℕ) where
 
   module _ (v priority interval : ℕ) (addresses : List ℕ) where
     refusal-test : (t : Bool) → eqb v 0 ≡ t
-        → configureRefusal (emptyOf primary) v priority interval addresses ≡ stationRefusal v priority interval addresses
+        → configureRefusal (emptyOf primary) v priority interval addresses
+        ≡ stationRefusal v priority interval addresses
     unfolding configureRefusal stationRefusal
     refusal-test true e = rw e
     refusal-test false e =
         rw (none-there (placeOf (emptyOf primary) v) v (eqb-false v 0 e) refl, first-free)
 
     -- 18 and 19 are never due
-    same-refusal : configureRefusal (emptyOf primary) v priority interval addresses ≡ stationRefusal v priority interval addresses
+    same-refusal : configureRefusal (emptyOf primary) v priority interval addresses
+        ≡ stationRefusal v priority interval addresses
     same-refusal = refusal-test (eqb v 0) refl
 
 -- the number, the words and the lists, by whether it is refused
@@ -106,7 +109,8 @@ module _ (primary : ℕ) (r : Router) (addresses : List ℕ) (number : ℕ) wher
   unfolding wordsOf
   same-words = refl
 
-  words-test : (t : Bool) → wordsOf (cond t done undone .station) ≡ cond t (setRecord (emptyOf primary) 0 r) (emptyOf primary)
+  words-test : (t : Bool)
+      → wordsOf (cond t done undone .station) ≡ cond t (setRecord (emptyOf primary) 0 r) (emptyOf primary)
   words-test true =
       same-words ∙ sym (store-first (stationOf primary freed (zeros 64)) refl r)
       ∙ ap (λ (words : List ℕ). setRecord words 0 r) (blank-words primary)
@@ -127,7 +131,7 @@ made-in-table v priority interval preempt primary addresses =
       number-test primary r addresses number (eqb number 0) refl,
       words-test primary r addresses number (eqb number 0),
       lists-test primary r addresses number (eqb number 0)
-      (λ t. made-most v priority interval preempt primary addresses (eqb-true number 0 t)),
+          (λ t. made-most v priority interval preempt primary addresses (eqb-true number 0 t)),
     )
 
 pub made-well-formed : MadeWellFormed

@@ -3,7 +3,7 @@
 use mathlib.Core.Path.{_≡_, refl}
 use mathlib.Core.Bool.{Bool, true, false, cond}
 use mathlib.Core.List.{List}
-use Prim.Native.Nat.{ℕ, _≤_}
+use Prim.Native.Nat.{ℕ}
 use native.Mathlib.Omega.{arith}
 use lib.Dec.{eqb}
 use borrow.Author.Tests.{eq-eqb, ne-eqb, eqb-false}
@@ -52,7 +52,8 @@ module _ (s : Station) (packet : List ℕ) (f : Fields) (room : List ℕ) where
   sought-ours e = rw (eq-eqb (f .vrid) (s .router .vrid) e)
 
 module _ (s : Station) (packet room : List ℕ) where
-  pub heard-unfit : (number : ℕ) (stepped : Stepped) → judgedOf packet ≡ JudgedRefused number → stepped ≡ refusedBy s number
+  pub heard-unfit : (number : ℕ) (stepped : Stepped) → judgedOf packet ≡ JudgedRefused number
+      → stepped ≡ refusedBy s number
       → Leaves (heardBy s packet room) stepped room
   unfolding heardBy
   heard-unfit number stepped e w = record { answer-is = rw (e, w); station-is = rw (e, w); room-is = rw e }

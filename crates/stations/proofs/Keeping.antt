@@ -9,7 +9,6 @@ use lib.Dec.{eqb, ltb}
 use lib.ListN.{length, take, drop, length-set}
 use lib.Seq.{length-take-le, take-append-seam, take-append-le}
 use borrow.Author.Tests.{eqb-true, eqb-false}
-use Rattle.wire.specs.declared.judging.Fields.{Fields}
 use Rattle.wire.specs.declared.judging.Judged.{Judged}
 use Rattle.wire.specs.declared.judging.Judged.the-variants.{Accepted, Refused}
 use Rattle.wire.specs.Writing.{over}
@@ -22,18 +21,20 @@ use Rattle.router.specs.Clock.{tickedOf}
 use Rattle.router.specs.Accept.{acceptedOf, refusedOf}
 use Rattle.router.proofs.Kept.{Kept, step-keeps, ticked-keeps}
 use Rattle.output.proofs.Lengths.{bytes-length}
-use Rattle.table.specs.declared.answer.Answered.the-variants.{Done, Short, Refused as CallRefused}
+use Rattle.table.specs.declared.answer.Answered.the-variants.{Done, Short}
 use Rattle.stations.specs.declared.station.Station.{Station}
 use Rattle.stations.specs.Station.{Result, refuses, listOf, withRouter, withFrame}
 use Rattle.stations.specs.Acting.{writtenBy, neededBy, actedBy}
-use Rattle.stations.specs.Hearing.{countedBy, refusalBy, acceptedOutcome, acceptedBy, soughtBy, judgedBy, heardBy}
+use Rattle.stations.specs.Hearing.{countedBy, refusalBy, acceptedOutcome, acceptedBy, judgedBy, heardBy}
 use Rattle.stations.specs.Steps.{happenedTo, clockedBy}
 use Rattle.stations.specs.Tables.{WellFormed}
-use Rattle.stations.specs.Theorems.{Keeps, EventKeeps, ClockKeeps, PacketKeeps, EventStays, ClockStays, PacketStays}
+use Rattle.stations.specs.Theorems.{Keeps, EventKeeps, ClockKeeps, PacketKeeps}
+use Rattle.stations.specs.Theorems.{EventStays, ClockStays, PacketStays}
 use Rattle.stations.proofs.Acted.{advertisement-fits}
 
 -- a refusal that leaves addresses and frame
-refused-keeps : (s after : Station) (number : ℕ) (room : List ℕ) → after .addresses ≡ s .addresses → after .sent ≡ s .sent
+refused-keeps : (s after : Station) (number : ℕ) (room : List ℕ) → after .addresses ≡ s .addresses
+    → after .sent ≡ s .sent
     → after .frame ≡ s .frame → Keeps s (refuses number after room)
 refused-keeps s after number room a b c =
     record {
@@ -62,7 +63,8 @@ module _ (s : Station) (o : Outcome) (leftover : ℕ) (room : List ℕ) where
       let fits : n ≤ length written = omega (arith, bytes-length (o .writes) (o .router) (s .primary) (listOf s)) in
       let long : length (take n written) ≡ n = length-take-le n written fits in
       let kept = take-append-seam (take n written) (drop (length (take n written)) (s .frame)) in
-      let stands = ap (λ (k : ℕ). take k (over written room)) long ∙ take-append-le n written (drop (length written) room) fits in
+      let first = take-append-le n written (drop (length written) room) fits in
+      let stands = ap (λ (k : ℕ). take k (over written room)) long ∙ first in
       record {
         addresses = refl;
         written = λ bytes left e m. (long, kept ∙ sym stands);

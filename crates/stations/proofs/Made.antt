@@ -32,14 +32,18 @@ module _ (v priority interval : ℕ) (preempt : Bool) (primary : ℕ) (addresses
       let p = passed (stationChecks v priority interval addresses) (omega arith) e in
       eqb-false v 0 (p .0)
 
-  pub made-refused : (number : ℕ) (station : Station) → number ≡ stationRefusal v priority interval addresses → ¬ (number ≡ 0)
+  pub made-refused : (number : ℕ) (station : Station) → number ≡ stationRefusal v priority interval addresses
+      → ¬ (number ≡ 0)
       → station ≡ stationOf primary freed (replicate 64 0)
-      → _≡_ {A = Stepped} (record { station = station; answer = Refused number }) (madeOf v priority interval preempt primary addresses)
+      → _≡_ {A = Stepped} (record { station = station; answer = Refused number })
+      (madeOf v priority interval preempt primary addresses)
   unfolding madeOf
   made-refused number station e n s = rw (← e, ne-eqb number 0 n, s)
 
   pub made-done : (station : Station) → stationRefusal v priority interval addresses ≡ 0
-      → station ≡ stationOf primary (newRouter v priority interval preempt (length addresses / 4)) (addressesIn addresses)
-      → _≡_ {A = Stepped} (record { station = station; answer = Done 0 0 }) (madeOf v priority interval preempt primary addresses)
+      → station
+      ≡ stationOf primary (newRouter v priority interval preempt (length addresses / 4)) (addressesIn addresses)
+      → _≡_ {A = Stepped} (record { station = station; answer = Done 0 0 })
+      (madeOf v priority interval preempt primary addresses)
   unfolding madeOf
   made-done station e s = rw (eq-eqb (stationRefusal v priority interval addresses) 0 e, s)

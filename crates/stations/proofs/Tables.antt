@@ -5,7 +5,8 @@ use mathlib.Core.List.{List, _∷_, _++_, append-assoc}
 use Prim.Native.Nat.{ℕ, zero, suc, _+_, _-_, _*_, _%_, _≤_, _<_}
 use native.Mathlib.Nat.{mod-eq-of-lt}
 use native.Mathlib.Omega.{arith}
-use lib.ListN.{length, getD, set, take, drop, replicate, length-append, length-replicate, getD-replicate, List·getD-append}
+use lib.ListN.{length, getD, set, take, drop, replicate}
+use lib.ListN.{length-append, length-replicate, getD-replicate, List·getD-append}
 use lib.Seq.{paste, take-at, drop-at, take-all, drop-drop, take-append-le, getD-drop, set-append-left}
 use borrow.Author.Tests.{ne-eqb}
 use Rattle.router.specs.declared.record.Router.{Router}
@@ -39,8 +40,9 @@ paste-middle a b z c m n la lb lc =
 zero-behind : (a b : List ℕ) (m n k i : ℕ) → length a ≡ m → length b ≡ n → i < k
     → getD (a ++ (b ++ replicate k 0)) (m + n + i) 0 ≡ 0
 zero-behind a b m n k i la lb h =
-    let whole = a ++ (b ++ replicate k 0) in
-    let back = sym (drop-drop n m whole) ∙ ap (drop n) (drop-at a (b ++ replicate k 0) m la) ∙ drop-at b (replicate k 0) n lb in
+    let zeros : List ℕ = replicate k 0 in
+    let whole = a ++ (b ++ zeros) in
+    let back = sym (drop-drop n m whole) ∙ ap (drop n) (drop-at a (b ++ zeros) m la) ∙ drop-at b zeros n lb in
     sym (getD-drop (m + n) whole i 0) ∙ ap (λ (l : List ℕ). getD l i 0) back ∙ getD-replicate k i 0 0 h
 
 -- one more in the front one of two lists, behind a first number
@@ -131,10 +133,12 @@ module _ (s : Station) (w : WellFormed s) where
   first-list =
       let n = s .router .count in
       let most : 4 * n ≤ length (s .addresses) = omega (arith, w .count, w .addresses) in
-      take-append-le (4 * n) (s .addresses) (replicate 16256 0) most ∙ ap (λ (k : ℕ). take (4 * k) (s .addresses)) (sym few)
+      take-append-le (4 * n) (s .addresses) (replicate 16256 0) most
+      ∙ ap (λ (k : ℕ). take (4 * k) (s .addresses)) (sym few)
 
   -- counting a refusal of 1 to 9 is counting it in the station
-  pub count-first : (number : ℕ) → 1 ≤ number → number ≤ 9 → countRefusal (wordsOf s) number ≡ wordsOf (countedBy s number)
+  pub count-first : (number : ℕ) → 1 ≤ number → number ≤ 9
+      → countRefusal (wordsOf s) number ≡ wordsOf (countedBy s number)
   unfolding wordsOf countRefusal countedBy
   count-first number least most =
       let e : number ≡ suc (number - 1) = omega arith in

@@ -7,38 +7,33 @@ use Prim.Native.Nat.{ℕ, _+_, _*_}
 use native.Mathlib.Omega.{arith}
 use lib.Dec.{eqb, ltb}
 use lib.ListN.{length, take}
-use borrow.Author.Tests.{eqb-true, eqb-false}
+use borrow.Author.Tests.{ne-eqb, eqb-true, eqb-false}
 use Rattle.wire.specs.declared.judging.Fields.{Fields}
 use Rattle.wire.specs.declared.judging.Judged.{Judged}
 use Rattle.wire.specs.declared.judging.Judged.the-variants.{Accepted, Refused}
-use Rattle.wire.specs.Writing.{over}
 use Rattle.wire.specs.Judging.{judgedOf}
 use Rattle.wire.proofs.Accepted.{refused-most}
 use Rattle.router.specs.declared.step.Event.the-variants.{Packet}
-use Rattle.router.specs.declared.record.Router.{Router}
 use Rattle.router.specs.declared.step.Outcome.{Outcome}
 use Rattle.router.specs.Step.{stepOf}
 use Rattle.router.specs.Clock.{tickedOf}
-use Rattle.router.specs.Accept.{acceptedOf, routerRefusal, refusedOf}
+use Rattle.router.specs.Accept.{acceptedOf, refusedOf}
 use Rattle.router.proofs.Kept.{step-keeps, ticked-keeps}
-use Rattle.output.specs.Output.{bytesOf, needOf}
-use Rattle.places.specs.declared.place.Found.{Found}
-use Rattle.places.specs.declared.place.Found.the-variants.{At, Nothing}
-use Rattle.places.specs.Place.{primaryOf, recordAt, setRecord}
-use Rattle.table.specs.Lists.{listAt, theirList, listsMatch}
+use Rattle.table.specs.Lists.{listAt}
 use Rattle.table.specs.Result.{Result as TableResult, routerPlace, actedOf}
-use Rattle.table.specs.Events.{happenedAt, happenedOf, clockedAt, clockedOf}
+use Rattle.table.specs.Events.{happenedOf, clockedOf}
 use Rattle.table.specs.Packets.{refusalAt, acceptedAt, heardAt, soughtAt, judgedAt, heardOf}
 use Rattle.stations.specs.declared.station.Station.{Station}
-use Rattle.stations.specs.Station.{Result, refuses, listOf, withRouter, withFrame}
+use Rattle.stations.specs.Station.{Result, refuses, listOf, packetOf, withRouter, withFrame}
 use Rattle.stations.specs.Acting.{writtenBy, neededBy, keptBy, actedBy}
-use Rattle.stations.specs.Hearing.{countedBy, refusalBy, acceptedOutcome, acceptedBy, soughtBy, judgedBy, heardBy}
-use Rattle.stations.specs.Steps.{happenedTo, clockedBy}
+use Rattle.stations.specs.Hearing.{countedBy, refusalBy, acceptedOutcome, acceptedBy, judgedBy, heardBy}
+use Rattle.stations.specs.Steps.{happenedTo, clockedBy, deliveredTo}
 use Rattle.stations.specs.Tables.{wordsOf, listsOf, inTable, WellFormed}
-use Rattle.stations.specs.Theorems.{OneStep, EventInTable, ClockInTable, PacketInTable}
+use Rattle.stations.specs.Theorems.{OneStep, EventInTable, ClockInTable, PacketInTable, DeliveryInTable}
 use Rattle.stations.proofs.Arrays.{list-length}
 use Rattle.stations.proofs.Heard.{refused-least}
-use Rattle.stations.proofs.Tables.{store-first, first-record, primary-is, found-first, nothing-else, few, first-list, count-first}
+use Rattle.stations.proofs.Tables.{store-first, first-record, primary-is, found-first, nothing-else}
+use Rattle.stations.proofs.Tables.{few, first-list, count-first}
 
 pub one-step : OneStep
 one-step result a b room other x y =
@@ -47,7 +42,8 @@ one-step result a b room other x y =
     (λ i. record { station = stations i; answer = answers i }, x .room-is ∙ sym (y .room-is))
 
 -- whichever of two results is taken, where both are the same in the table
-either-in-table : (t : Bool) (a b : TableResult) (c d : Result) → a ≡ inTable c → b ≡ inTable d → cond t a b ≡ inTable (cond t c d)
+either-in-table : (t : Bool) (a b : TableResult) (c d : Result) → a ≡ inTable c → b ≡ inTable d
+    → cond t a b ≡ inTable (cond t c d)
 either-in-table true a b c d x y = x
 either-in-table false a b c d x y = y
 
@@ -68,7 +64,7 @@ module _ (s : Station) (w : WellFormed s) where
   unfolding actedOf actedBy
   acted-in-table o leftover room same =
       let long : 4 * o .router .count ≡ length (listOf s) = omega (arith, list-length s (w .addresses), few s w) in
-      let list : listAt (listsOf s) 0 (o .router .count) ≡ listOf s = ap (listAt (listsOf s) 0) same ∙ first-list s w in
+      let list = ap (listAt (listsOf s) 0) same ∙ first-list s w in
       rw (long, list, store-first s (w .refusals) (o .router), primary-is s w, ← kept-words s o)
       (either-in-table (ltb (length room) (neededBy s o)) _ _ _ _ refl refl)
 
@@ -116,7 +112,8 @@ pub event-in-table : EventInTable
 unfolding happenedOf happenedTo
 event-in-table s event room w =
     let same = step-keeps (s .primary) (s .router) event .count in
-    rw (found-first s w, first-record s w, primary-is s w) (acted-in-table s w (stepOf (s .primary) (s .router) event) 0 room same)
+    rw (found-first s w, first-record s w, primary-is s w)
+    (acted-in-table s w (stepOf (s .primary) (s .router) event) 0 room same)
 
 pub clock-in-table : ClockInTable
 unfolding clockedOf clockedBy
@@ -129,3 +126,8 @@ clock-in-table s ticks room w =
 pub packet-in-table : PacketInTable
 unfolding heardOf heardBy
 packet-in-table s packet room w = judged-in-table s w (judgedOf packet) packet room refl
+
+pub delivery-in-table : DeliveryInTable
+unfolding deliveredTo
+delivery-in-table from to room w some =
+    rw (ne-eqb (from .sent) 0 some) (packet-in-table to (packetOf from) room w)

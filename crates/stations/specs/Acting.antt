@@ -1,4 +1,4 @@
--- An event's outcome for a station, and the advertisement that it keeps (01, 'The rehearsal program', 'Refusal numbers').
+-- An event's outcome for a station, and the advertisement that it keeps (01, 'The rehearsal program').
 use Prim.Native.Nat.{ℕ, _+_}
 use mathlib.Core.List.{List}
 use mathlib.Core.Bool.{cond}
@@ -24,8 +24,8 @@ keptBy s outcome =
     cond (eqb (neededBy s outcome) 0) (withRouter s (outcome .router))
     (withFrame (withRouter s (outcome .router)) (take (50 + length (listOf s)) (writtenBy s outcome)))
 
--- "22 output room smaller than the bytes this event writes", and then nothing changes; else the router is as the outcome has
--- it, and its frames stand at the start of the room
+-- "22 output room smaller than the bytes this event writes", and then nothing changes; else the router is as the
+-- outcome has it, and its frames stand at the start of the room
 unfoldable pub actedBy : Station → Outcome → ℕ → List ℕ → Result
 actedBy s outcome leftover room =
     cond (ltb (length room) (neededBy s outcome))

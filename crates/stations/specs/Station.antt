@@ -1,4 +1,4 @@
--- A station by value, and what a step on it leaves (01, 'The rehearsal program': "Each station is a table of one router").
+-- A station by value, and what a step on it leaves (01, 'The rehearsal program').
 use Prim.Native.Nat.{ℕ, _*_, _%_}
 use mathlib.Core.Path.{_≡_}
 use mathlib.Core.List.{List}

@@ -18,7 +18,8 @@ happenedTo s event room = actedBy s (stepOf (s .primary) (s .router) event) 0 ro
 -- a clock step of a station's router
 unfoldable pub clockedBy : Station → ℕ → List ℕ → Result
 clockedBy s ticks room =
-    actedBy s (tickedOf (s .primary) (s .router) ticks .outcome) (tickedOf (s .primary) (s .router) ticks .leftover) room
+    actedBy s (tickedOf (s .primary) (s .router) ticks .outcome)
+    (tickedOf (s .primary) (s .router) ticks .leftover) room
 
 -- "the latest advertisement frame of from, less its 14 Ethernet bytes, is handed to to"; "28 .. from has sent nothing"
 unfoldable pub deliveredTo : Station → Station → List ℕ → Result

@@ -3,7 +3,6 @@ use Prim.Native.Nat.{ℕ, _≤_, _<_}
 use mathlib.Core.Path.{_≡_}
 use mathlib.Core.List.{List, _∷_, _++_}
 use lib.ListN.{length, replicate}
-use Rattle.router.specs.declared.record.Router.{Router}
 use Rattle.places.specs.Layout.{encodeOf}
 use Rattle.table.specs.Result.{Result as TableResult}
 use Rattle.stations.specs.declared.station.Station.{Station}

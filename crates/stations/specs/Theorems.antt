@@ -1,4 +1,5 @@
--- The theorems of this crate, as statements: each is proved under the same name in proofs/Theorems.antt.
+-- The theorems of this crate, as statements: each is proved under the same name in proofs/Theorems.antt, what steps
+-- keep in proofs/Keeping.antt, and what making a station comes to in proofs/Begun.antt.
 use Prim.Native.Nat.{ℕ, _+_, _<_}
 use mathlib.Core.Path.{_≡_}
 use mathlib.Core.List.{List}
@@ -12,10 +13,10 @@ use Rattle.table.specs.Events.{happenedOf, clockedOf}
 use Rattle.table.specs.Packets.{heardOf}
 use Rattle.stations.specs.declared.station.Station.{Station}
 use Rattle.stations.specs.declared.station.Stepped.{Stepped}
-use Rattle.stations.specs.Station.{Result, Leaves, listOf}
+use Rattle.stations.specs.Station.{Result, Leaves, listOf, packetOf}
 use Rattle.stations.specs.Making.{stationRefusal, madeOf}
 use Rattle.stations.specs.Hearing.{heardBy}
-use Rattle.stations.specs.Steps.{happenedTo, clockedBy}
+use Rattle.stations.specs.Steps.{happenedTo, clockedBy, deliveredTo}
 use Rattle.stations.specs.Tables.{wordsOf, listsOf, inTable, WellFormed}
 
 -- two outcomes that the promise of a step allows are equal
@@ -41,6 +42,12 @@ abbrev pub PacketInTable : Type 0
 PacketInTable =
     (s : Station) (packet room : List ℕ) → WellFormed s
     → heardOf (wordsOf s) (listsOf s) packet room ≡ inTable (heardBy s packet room)
+
+-- and a delivery, where anything was sent
+abbrev pub DeliveryInTable : Type 0
+DeliveryInTable =
+    (from to : Station) (room : List ℕ) → WellFormed to → ¬ (from .sent ≡ 0)
+    → heardOf (wordsOf to) (listsOf to) (packetOf from) room ≡ inTable (deliveredTo from to room)
 
 -- a station just configured is the empty table with that router configured, and is refused by the same number
 abbrev pub MadeInTable : Type 0
@@ -78,7 +85,8 @@ PacketKeeps = (s : Station) (packet room : List ℕ) → Keeps s (heardBy s pack
 
 -- a well formed station stays so: startup and shutdown
 abbrev pub EventStays : Type 0
-EventStays = (s : Station) (event : Event) (room : List ℕ) → WellFormed s → WellFormed (happenedTo s event room .station)
+EventStays =
+    (s : Station) (event : Event) (room : List ℕ) → WellFormed s → WellFormed (happenedTo s event room .station)
 
 -- and a clock step
 abbrev pub ClockStays : Type 0

@@ -9,7 +9,7 @@ use table::answer::Answered;
 use wire::room::put;
 ghost use mathlib.Core.Path.{_≡_};
 ghost use Prim.Native.Nat.{_*_, _%_, _≤_};
-ghost use lib.ListN.{length, take};
+ghost use lib.ListN.{length};
 ghost use Rattle.stations.specs.Station.{Leaves, withRouter, withFrame};
 ghost use Rattle.stations.specs.Acting.{actedBy};
 

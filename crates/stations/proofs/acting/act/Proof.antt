@@ -80,7 +80,8 @@ part-with-frame-end c =
     let part = part-is-list (a .s) _ (at-bytes .list-bytes .ensures .0) in
     let need-is = at-need .need .ensures ∙ ap (λ (l : List ℕ). needOf (a .outcome .writes) (length l)) part in
     let long = array-long (a .s .addresses) 64 (start .good .0 .1 .1 .1 .1 .1 .0 .1 .0 .1) in
-    let least = advertisement-fits (a .outcome .writes) (length (listOf (a .s))) (λ z. c .before .if2 .left (need-is ∙ z)) in
+    let least =
+    advertisement-fits (a .outcome .writes) (length (listOf (a .s))) (λ z. c .before .if2 .left (need-is ∙ z)) in
     let fits : 50 + at-bytes .list-bytes .result ≤ at-need .need .result = omega (arith, list-length (a .s) long) in
     let holds = at-put .before .before .if1 .left in
     let same = at-put .put-output .kept .1 .1 .1 .1 .0 in

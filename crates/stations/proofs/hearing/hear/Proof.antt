@@ -43,8 +43,8 @@ returns c =
     let at-fields = at-hear .before .before .before in
     let at-judge = at-fields .before .before in
     let a = at-judge .before .before .before .args in
-    leaves-equal _ _
-    (heard-fit (a .s) (now (a .packet)) (now (a .out)) _ (sym (at-judge .judge .ensures) ∙ at-fields .fields .given .1))
+    let judged = sym (at-judge .judge .ensures) ∙ at-fields .fields .given .1 in
+    leaves-equal _ _ (heard-fit (a .s) (now (a .packet)) (now (a .out)) _ judged)
     (at-hear .hear-judged .ensures)
 
 returns-2 : tie.Need-returns-2
@@ -52,8 +52,8 @@ returns-2 c =
     let at-number = c .before .before in
     let at-judge = at-number .before .before in
     let a = at-judge .before .before .before .args in
-    heard-unfit (a .s) (now (a .packet)) (now (a .out)) _ _ (sym (at-judge .judge .ensures) ∙ at-number .number .given .1)
-    (c .refuse .ensures)
+    let judged = sym (at-judge .judge .ensures) ∙ at-number .number .given .1 in
+    heard-unfit (a .s) (now (a .packet)) (now (a .out)) _ _ judged (c .refuse .ensures)
 
 pub hear-spec : {M : Type 1} → statement M
 hear-spec =

@@ -25,7 +25,8 @@ returns-2 : tie.Need-returns-2
 returns-2 c =
     let at-hear = c .before .before in
     let a = at-hear .before .before .before .before .before .before .before .before .args in
-    leaves-equal _ _ (sought-ours (a .s) (now (a .packet)) (a .fields) (now (a .out)) (at-hear .before .before .if1 .left))
+    let ours = at-hear .before .before .if1 .left in
+    leaves-equal _ _ (sought-ours (a .s) (now (a .packet)) (a .fields) (now (a .out)) ours)
     (at-hear .hear-fields .ensures)
 
 pub hear-judged-spec : {M : Type 1} → statement M

@@ -28,16 +28,24 @@ unfolding stationRefusal
 returns-4 c =
     let at-if3 = c .before .before in
     let bytes = sym (c .before .address-bytes-wrong .ensures) ∙ c .if4 .taken in
-    simp
-    (ne-eqb _ _ (at-if3 .before .before .if1 .left), ne-eqb _ _ (at-if3 .before .if2 .left), ne-eqb _ _ (at-if3 .if3 .left), bytes)
+    simp (
+      ne-eqb _ _ (at-if3 .before .before .if1 .left),
+      ne-eqb _ _ (at-if3 .before .if2 .left),
+      ne-eqb _ _ (at-if3 .if3 .left),
+      bytes,
+    )
 
 returns-5 : tie.Need-returns-5
 unfolding stationRefusal
 returns-5 c =
     let at-if3 = c .before .before in
     let bytes = sym (c .before .address-bytes-wrong .ensures) ∙ c .if4 .left in
-    simp
-    (ne-eqb _ _ (at-if3 .before .before .if1 .left), ne-eqb _ _ (at-if3 .before .if2 .left), ne-eqb _ _ (at-if3 .if3 .left), bytes)
+    simp (
+      ne-eqb _ _ (at-if3 .before .before .if1 .left),
+      ne-eqb _ _ (at-if3 .before .if2 .left),
+      ne-eqb _ _ (at-if3 .if3 .left),
+      bytes,
+    )
 
 pub station-refusal-spec : {M : Type 1} → statement M
 station-refusal-spec =

@@ -25,7 +25,8 @@ returns c =
     let at-act = c .before .before in
     let at-step = at-act .before .before in
     let a = at-step .before .before .before .args in
-    leaves-equal _ _ (ap (λ (o : Outcome). actedBy (a .s) o 0 (now (a .out))) (at-step .step .ensures)) (at-act .act .ensures)
+    leaves-equal _ _ (ap (λ (o : Outcome). actedBy (a .s) o 0 (now (a .out))) (at-step .step .ensures))
+    (at-act .act .ensures)
 
 pub happen-spec : {M : Type 1} → statement M
 happen-spec = tie.close (tie.spec step-requires act-requires same-length returns)
