@@ -6,3 +6,4 @@ pub mod Tables
 pub mod Theorems
 pub mod Keeping
 pub mod Begun
+pub mod ReadBack
