@@ -5,5 +5,6 @@ pub mod Made
 pub mod Tables
 pub mod Theorems
 pub mod Keeping
+pub mod Staying
 pub mod Begun
 pub mod ReadBack

@@ -21,7 +21,8 @@ use Rattle.table.specs.Lists.{theirList}
 use Rattle.stations.specs.declared.station.Station.{Station}
 use Rattle.stations.specs.Station.{listOf, packetOf}
 use Rattle.stations.specs.Acting.{writtenBy, neededBy, keptBy}
-use Rattle.stations.specs.Theorems.{advertisedPriority, LatestReadsBack}
+use Rattle.stations.specs.Latest.{advertisedPriority}
+use Rattle.stations.specs.Theorems.{LatestReadsBack}
 use Rattle.stations.proofs.Arrays.{list-length}
 use Rattle.stations.proofs.Tables.{few}
 
@@ -69,9 +70,10 @@ latest-reads-back s o w primary bytes v p i some =
     advertisement-first (o .router) (s .primary) list (o .writes) some ∙ rw (v, p, i) in
     let long = list-length s (w .addresses) in
     let writable : Writable list 114 = omega (arith, long, few s w, w .count) in
-    let read = reads-back (r .vrid) priority (r .interval) (s .primary) 114 list (w .vrid)
-    (priority-byte (o .writes) (r .priority) (w .priority)) (w .interval) primary bytes writable (length frame) (s .frame)
-    (over frame (s .frame)) (frame-length (r .vrid) priority (r .interval) (s .primary) list) refl in
+    let byte = priority-byte (o .writes) (r .priority) (w .priority) in
+    let read = reads-back (r .vrid) priority (r .interval) (s .primary) 114 list (w .vrid) byte (w .interval) primary
+    bytes writable (length frame) (s .frame) (over frame (s .frame))
+    (frame-length (r .vrid) priority (r .interval) (s .primary) list) refl in
     let count : length list / 4 ≡ r .count = omega (arith, long, few s w) in
     let fours : 4 * r .count ≡ length list = omega (arith, long, few s w) in
     rw (kept-packet s o frame some first, fours) (rw count at (read .0), read .1)

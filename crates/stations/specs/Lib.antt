@@ -4,4 +4,5 @@ pub mod Acting
 pub mod Hearing
 pub mod Steps
 pub mod Tables
+pub mod Latest
 pub mod Theorems

@@ -1,19 +1,16 @@
--- The theorems of this crate, as statements: each is proved under the same name in proofs/Theorems.antt; what steps
--- keep in proofs/Keeping.antt, what making a station comes to in proofs/Begun.antt, reading back in proofs/ReadBack.antt.
-use Prim.Native.Nat.{ℕ, _+_, _^_, _<_}
+-- The theorems of this crate, as statements: each is proved under the same name in proofs/, those of the table in
+-- Theorems.antt, of making a station in Begun.antt, of what steps keep in Keeping.antt and Staying.antt,
+-- of reading back in ReadBack.antt.
+use Prim.Native.Nat.{ℕ, _^_, _<_}
 use mathlib.Core.Path.{_≡_}
 use mathlib.Core.List.{List}
 use mathlib.Core.Bool.{Bool}
-use lib.ListN.{length, take, replicate}
+use lib.ListN.{replicate}
 use Rattle.sums.specs.Sum.{Bytes}
-use Rattle.wire.specs.declared.judging.Fields.{Fields}
 use Rattle.wire.specs.declared.judging.Judged.the-variants.{Accepted}
 use Rattle.wire.specs.Judging.{judgedOf}
 use Rattle.router.specs.declared.step.Event.{Event}
-use Rattle.router.specs.declared.step.Writes.{Writes}
-use Rattle.router.specs.declared.step.Writes.the-variants.{Nothing, Advertisement, Farewell, Takeover}
 use Rattle.router.specs.declared.step.Outcome.{Outcome}
-use Rattle.table.specs.declared.answer.Answered.the-variants.{Done}
 use Rattle.table.specs.Lists.{theirList}
 use Rattle.table.specs.Result.{answerNumber}
 use Rattle.table.specs.Configuring.{emptyOf, configureRefusal, configuredWords, configuredLists}
@@ -26,6 +23,7 @@ use Rattle.stations.specs.Making.{stationRefusal, madeOf}
 use Rattle.stations.specs.Acting.{neededBy, keptBy}
 use Rattle.stations.specs.Hearing.{heardBy}
 use Rattle.stations.specs.Steps.{happenedTo, clockedBy, deliveredTo}
+use Rattle.stations.specs.Latest.{Keeps, advertised}
 use Rattle.stations.specs.Tables.{wordsOf, listsOf, inTable, WellFormed}
 
 -- two outcomes that the promise of a step allows are equal
@@ -69,17 +67,6 @@ MadeInTable =
     × (listsOf (madeOf vrid priority interval preempt primary addresses .station)
     ≡ configuredLists (emptyOf primary) (replicate 16320 0) vrid priority interval addresses)
 
--- what a step leaves of a station's addresses, and so of the table's lists, and of its latest advertisement frame
-pub record Keeps (s : Station) (r : Result) : Type 0 where
-  pub addresses : r .station .addresses ≡ s .addresses
-  -- where anything is written, the frame is what stands at the start of the room
-  pub written : (bytes leftover : ℕ) → r .answer ≡ Done bytes leftover → ¬ (bytes ≡ 0)
-      → (r .station .sent ≡ 50 + length (listOf s))
-      × (take (r .station .sent) (r .station .frame) ≡ take (r .station .sent) (r .room))
-  -- and else it stays
-  pub silent : ((bytes leftover : ℕ) → r .answer ≡ Done bytes leftover → bytes ≡ 0)
-      → (r .station .sent ≡ s .sent) × (r .station .frame ≡ s .frame)
-
 -- "the latest advertisement frame of from": startup and shutdown
 abbrev pub EventKeeps : Type 0
 EventKeeps = (s : Station) (event : Event) (room : List ℕ) → Keeps s (happenedTo s event room)
@@ -92,35 +79,15 @@ ClockKeeps = (s : Station) (ticks : ℕ) (room : List ℕ) → Keeps s (clockedB
 abbrev pub PacketKeeps : Type 0
 PacketKeeps = (s : Station) (packet room : List ℕ) → Keeps s (heardBy s packet room)
 
--- the priority of an advertisement: "advertise with priority 0" where a Master shuts down
-abbrev pub advertisedPriority : Writes → ℕ → ℕ
-advertisedPriority Nothing priority = priority
-advertisedPriority Advertisement priority = priority
-advertisedPriority Farewell priority = 0
-advertisedPriority Takeover priority = priority
-
--- what an advertisement of a station says
-abbrev pub advertised : Station → ℕ → Fields
-advertised s priority =
-    record {
-      source = s .primary;
-      vrid = s .router .vrid;
-      priority = priority;
-      count = s .router .count;
-      authentication = 0;
-      interval = s .router .interval;
-      list = 28;
-    }
-
--- "each advertisement we write reads back": the packet that is delivered after an outcome that writes, where the outcome
--- leaves the router configured as it was
+-- "each advertisement we write reads back": the packet that is delivered after an outcome that writes, and that leaves
+-- the router configured as it was
 abbrev pub LatestReadsBack : Type 0
 LatestReadsBack =
     (s : Station) (o : Outcome) → WellFormed s → s .primary < 2 ^ 32 → Bytes (listOf s)
     → o .router .vrid ≡ s .router .vrid → o .router .priority ≡ s .router .priority
     → o .router .interval ≡ s .router .interval → ¬ (neededBy s o ≡ 0)
-    → (judgedOf (packetOf (keptBy s o)) ≡ Accepted (advertised s (advertisedPriority (o .writes) (s .router .priority))))
-    × (theirList (packetOf (keptBy s o)) (advertised s (advertisedPriority (o .writes) (s .router .priority))) ≡ listOf s)
+    → (judgedOf (packetOf (keptBy s o)) ≡ Accepted (advertised s (o .writes)))
+    × (theirList (packetOf (keptBy s o)) (advertised s (o .writes)) ≡ listOf s)
 
 -- a well formed station stays so: startup and shutdown
 abbrev pub EventStays : Type 0

@@ -84,7 +84,6 @@ part-with-frame-end c =
     advertisement-fits (a .outcome .writes) (length (listOf (a .s))) (λ z. c .before .if2 .left (need-is ∙ z)) in
     let fits : 50 + at-bytes .list-bytes .result ≤ at-need .need .result = omega (arith, list-length (a .s) long) in
     let holds = at-put .before .before .if1 .left in
-    let same = at-put .put-output .kept .1 .1 .1 .1 .0 in
     search needs
 
 with-frame-requires : tie.Need-with-frame-requires
