@@ -8,3 +8,5 @@ pub mod Keeping
 pub mod Staying
 pub mod Begun
 pub mod ReadBack
+mod Locals
+mod Placed

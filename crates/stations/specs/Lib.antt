@@ -6,3 +6,4 @@ pub mod Steps
 pub mod Tables
 pub mod Latest
 pub mod Theorems
+pub mod List
