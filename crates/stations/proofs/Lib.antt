@@ -10,3 +10,4 @@ pub mod Begun
 pub mod ReadBack
 mod Locals
 mod Placed
+mod Rows

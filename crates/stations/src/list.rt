@@ -2,7 +2,8 @@
 use crate::station::Station;
 use crate::steps;
 use table::answer::Answered;
-ghost use Rattle.stations.specs.List.{LeavesList, startedAt};
+ghost use mathlib.Core.Path.{_≡_};
+ghost use Rattle.stations.specs.List.{LeavesList, startedAt, deliveryRefusal, deliveredAt};
 
 // Starts up the station of a number; refuses by 26 and by what starting it up refuses.
 pub fn startup(stations: &mut [Station], at: usize, out: &mut [u8]) -> Answered
@@ -16,5 +17,39 @@ pub fn startup(stations: &mut [Station], at: usize, out: &mut [u8]) -> Answered
     let stepped = steps::startup(before, out);
     let after = stepped.station;
     stations[at] = after;
+    stepped.answer
+}
+
+// The first of 26 and 28 that a delivery among so many stations is refused by, or 0.
+fn delivery_refusal(from: usize, to: usize, count: usize) -> u32
+    ensures { λ r. ⌜ r ≡ deliveryRefusal from to count ⌝ }
+{
+    if from >= count {
+        return 26;
+    }
+    if to >= count {
+        return 26;
+    }
+    if from == to {
+        return 28;
+    }
+    0
+}
+
+// Hands the latest advertisement of one station to another; refuses by 26, 28 and by what the delivery refuses.
+pub fn deliver(stations: &mut [Station], from: usize, to: usize, out: &mut [u8]) -> Answered
+    ensures { λ r. ⌜
+        LeavesList (deliveredAt (now (stations .entry)) from to (now (out .entry))) r (now (stations .exit))
+        (now (out .exit)) ⌝ }
+{
+    let refusal = delivery_refusal(from, to, stations.len());
+    if refusal != 0 {
+        return Answered::Refused(refusal);
+    }
+    let sender = stations[from];
+    let before = stations[to];
+    let stepped = steps::deliver(sender, before, out);
+    let after = stepped.station;
+    stations[to] = after;
     stepped.answer
 }
