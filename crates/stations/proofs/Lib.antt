@@ -11,3 +11,4 @@ pub mod ReadBack
 mod Locals
 mod Placed
 mod Rows
+mod Stepping

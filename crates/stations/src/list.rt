@@ -3,7 +3,7 @@ use crate::station::Station;
 use crate::steps;
 use table::answer::Answered;
 ghost use mathlib.Core.Path.{_≡_};
-ghost use Rattle.stations.specs.List.{LeavesList, startedAt, deliveryRefusal, deliveredAt};
+ghost use Rattle.stations.specs.List.{LeavesList, startedAt, shutAt, clockedAt, deliveryRefusal, deliveredAt};
 
 // Starts up the station of a number; refuses by 26 and by what starting it up refuses.
 pub fn startup(stations: &mut [Station], at: usize, out: &mut [u8]) -> Answered
@@ -15,6 +15,37 @@ pub fn startup(stations: &mut [Station], at: usize, out: &mut [u8]) -> Answered
     }
     let before = stations[at];
     let stepped = steps::startup(before, out);
+    let after = stepped.station;
+    stations[at] = after;
+    stepped.answer
+}
+
+// Shuts down the station of a number; refuses by 26 and by what shutting it down refuses.
+pub fn shutdown(stations: &mut [Station], at: usize, out: &mut [u8]) -> Answered
+    ensures { λ r. ⌜
+        LeavesList (shutAt (now (stations .entry)) at (now (out .entry))) r (now (stations .exit)) (now (out .exit)) ⌝ }
+{
+    if at >= stations.len() {
+        return Answered::Refused(26);
+    }
+    let before = stations[at];
+    let stepped = steps::shutdown(before, out);
+    let after = stepped.station;
+    stations[at] = after;
+    stepped.answer
+}
+
+// Lets so many ticks pass at the station of a number; refuses by 26 and by what the clock refuses.
+pub fn clock(stations: &mut [Station], at: usize, ticks: u32, out: &mut [u8]) -> Answered
+    ensures { λ r. ⌜
+        LeavesList (clockedAt (now (stations .entry)) at ticks (now (out .entry))) r (now (stations .exit))
+        (now (out .exit)) ⌝ }
+{
+    if at >= stations.len() {
+        return Answered::Refused(26);
+    }
+    let before = stations[at];
+    let stepped = steps::clock(before, ticks, out);
     let after = stepped.station;
     stations[at] = after;
     stepped.answer
