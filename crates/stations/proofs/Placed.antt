@@ -13,16 +13,8 @@ use Rattle.stations.specs.declared.station.Station.{Station}
 use Rattle.stations.specs.declared.station.Stepped.{Stepped}
 use Rattle.stations.specs.Station.{Result, Leaves}
 use Rattle.stations.specs.Steps.{deliveredTo}
-use Rattle.stations.specs.List.{
-  ListResult,
-  LeavesList,
-  nowhere,
-  placed,
-  refusesList,
-  steppedAt,
-  deliveryRefusal,
-  deliveredAt,
-}
+use Rattle.stations.specs.List.{ListResult, LeavesList, nowhere, placed, refusesList, steppedAt}
+use Rattle.stations.specs.List.{deliveryRefusal, deliveredAt}
 
 -- what a step by value leaves, stored at its number
 pub stored : (result : Result) (stations : List Station) (at : ℕ) (r : Stepped) (room : List ℕ)

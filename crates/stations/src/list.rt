@@ -1,4 +1,4 @@
-// The stations of a segment in a lent list. Each call fetches a station, takes the step by value and stores what it left.
+// The stations of a segment in a lent list: each call fetches a station, takes its step by value and stores it.
 use crate::station::Station;
 use crate::steps;
 use table::answer::Answered;
@@ -8,7 +8,8 @@ ghost use Rattle.stations.specs.List.{LeavesList, startedAt, shutAt, clo
 // Starts up the station of a number; refuses by 26 and by what starting it up refuses.
 pub fn startup(stations: &mut [Station], at: usize, out: &mut [u8]) -> Answered
     ensures { λ r. ⌜
-        LeavesList (startedAt (now (stations .entry)) at (now (out .entry))) r (now (stations .exit)) (now (out .exit)) ⌝ }
+        LeavesList (startedAt (now (stations .entry)) at (now (out .entry))) r (now (stations .exit))
+        (now (out .exit)) ⌝ }
 {
     if at >= stations.len() {
         return Answered::Refused(26);
@@ -23,7 +24,8 @@ pub fn startup(stations: &mut [Station], at: usize, out: &mut [u8]) -> Answered
 // Shuts down the station of a number; refuses by 26 and by what shutting it down refuses.
 pub fn shutdown(stations: &mut [Station], at: usize, out: &mut [u8]) -> Answered
     ensures { λ r. ⌜
-        LeavesList (shutAt (now (stations .entry)) at (now (out .entry))) r (now (stations .exit)) (now (out .exit)) ⌝ }
+        LeavesList (shutAt (now (stations .entry)) at (now (out .entry))) r (now (stations .exit))
+        (now (out .exit)) ⌝ }
 {
     if at >= stations.len() {
         return Answered::Refused(26);

@@ -1,5 +1,4 @@
 -- `list::delivery_refusal`: each check in turn.
-use mathlib.Core.Path.{_≡_}
 use borrow.Author.Tests.{lt-ltb, le-ltb, eq-eqb, ne-eqb}
 use Rattle.stations.specs.List.{deliveryRefusal}
 use Rattle.stations.proofs.list.delivery_refusal.Statement.{statement}

@@ -25,4 +25,5 @@ shutdown-spec 𝓤 H 𝓜 𝓖 𝓡 =
     entered 𝓤 H (tripleOf 𝓤 H (𝓖 .A) here.signature (here.spec 𝓤 H (𝓖 .A) (𝓜 .mem) (𝓡 .run)))
     (tables 𝓤 H 𝓜 𝓡 code.env .C) (tables 𝓤 H 𝓜 𝓡 code.env .Λ) #here code.function (code.unfolded 𝓤 H 𝓜 𝓡)
     (meets 𝓤 H (𝓖 .A) (givenOf 𝓤 H 𝓜 𝓖) taken #step (tablesOf 𝓤 H 𝓜 (tables 𝓤 H 𝓜 𝓡 code.env))
-    (cited 𝓤 H (Taken 𝓤 taken H (𝓖 .A)) 𝓜 𝓡 code.env #step routine code.calls-stations·steps·shutdown (step-thm.met 𝓤 H 𝓜 𝓖 𝓡)))
+    (cited 𝓤 H (Taken 𝓤 taken H (𝓖 .A)) 𝓜 𝓡 code.env #step routine code.calls-stations·steps·shutdown
+    (step-thm.met 𝓤 H 𝓜 𝓖 𝓡)))
