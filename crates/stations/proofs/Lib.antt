@@ -12,3 +12,4 @@ mod Locals
 mod Placed
 mod Rows
 mod Stepping
+pub mod ListTheorems

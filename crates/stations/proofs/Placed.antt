@@ -1,9 +1,9 @@
 -- What a step on the station of a number leaves of the list, and what refuses a delivery.
-use Prim.Native.Nat.{ℕ, zero, suc, _<_, _≤_}
+use Prim.Native.Nat.{ℕ, _<_, _≤_}
 use native.Mathlib.Omega.{arith}
 use mathlib.Core.Path.{_≡_, refl, sym, ap, subst, _∙_}
 use mathlib.Core.Bool.{Bool, true, false, not}
-use mathlib.Core.List.{List, [], _∷_}
+use mathlib.Core.List.{List}
 use lib.Dec.{T, eqb}
 use lib.ListN.{length, getD, set}
 use borrow.Author.Tests.{lt-ltb, le-ltb, eq-eqb, ne-eqb, eqb-true, ltb-true, not-false}
@@ -39,12 +39,6 @@ module _ (step : Station → List ℕ → Result) (stations : List Station) (at 
   pub outside : length stations ≤ at → LeavesList (steppedAt step stations at room) (Refused 26) stations room
   unfolding steppedAt
   outside l = simp (le-ltb at (length stations) l) (unchanged 26 stations room)
-
--- a station that is put back where it was changes nothing
-pub put-back : (stations : List Station) (at : ℕ) → set stations at (getD stations at nowhere) ≡ stations
-put-back [] at = refl
-put-back (s ∷ rest) zero = refl
-put-back (s ∷ rest) (suc at) = ap (λ (l : List Station). s ∷ l) (put-back rest at)
 
 -- the first refusal of a delivery
 module _ (from to count : ℕ) where
