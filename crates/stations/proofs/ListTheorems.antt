@@ -29,7 +29,7 @@ only-at false stations at number result room = record { as-many = refl; others =
 
 pub step-only-at : StepOnlyAt
 unfolding steppedAt
-step-only-at step stations at room = only-at (ltb at (length stations)) stations at 26 _ room
+step-only-at step stations at room = only-at (ltb at (length stations)) stations at _ _ room
 
 pub delivery-only-at : DeliveryOnlyAt
 unfolding deliveredAt
