@@ -13,3 +13,4 @@ mod Placed
 mod Rows
 mod Stepping
 pub mod ListTheorems
+mod Lending

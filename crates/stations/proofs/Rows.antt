@@ -57,6 +57,9 @@ is-answer r v is = LL.owed S.the-type S′.the-laws r _ is .1 .0
 pub station-tells : Tells R (Is R) (LL.vals T.the-type T′.the-laws)
 station-tells = LL.tells T.the-type T′.the-laws
 
+pub answer-tells : Tells Answers (Is Answers) (EL.vals N.the-type N′.the-laws)
+answer-tells = EL.tells N.the-type N′.the-laws
+
 pub step-tells : Tells Steps (Is Steps) (LL.vals S.the-type S′.the-laws)
 step-tells = LL.tells S.the-type S′.the-laws
 

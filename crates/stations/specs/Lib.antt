@@ -8,3 +8,4 @@ pub mod Latest
 pub mod Theorems
 pub mod List
 pub mod ListTheorems
+pub mod Lent

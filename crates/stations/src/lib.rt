@@ -5,3 +5,4 @@ pub mod acting; // an event's outcome, and the advertisement that is kept
 pub mod hearing; // a packet that is handed over
 pub mod steps; // startup, shutdown, clock and delivery
 pub mod list; // the stations in a lent list
+pub mod lent; // plain parameters above the lent list
