@@ -8,6 +8,7 @@ pub mod Keeping
 pub mod Staying
 pub mod Begun
 pub mod ReadBack
+pub mod Firing
 mod Locals
 mod Placed
 mod Rows

@@ -1,7 +1,6 @@
 -- One step on a copy of the stations (01, 'The rehearsal program').
 use Prim.Native.Nat.{ℕ}
 use mathlib.Core.List.{List}
-use lib.ListN.{replicate}
 use Rattle.stations.specs.declared.station.Station.{Station}
 use Rattle.stations.specs.declared.lent.Step.{Step}
 use Rattle.stations.specs.declared.lent.Step.the-variants.{Startup, Shutdown, Clock, Deliver}
@@ -14,10 +13,6 @@ steppedBy (Startup at) stations room = startedAt stations at room
 steppedBy (Shutdown at) stations room = shutAt stations at room
 steppedBy (Clock at ticks) stations room = clockedAt stations at ticks room
 steppedBy (Deliver from to) stations room = deliveredAt stations from to room
-
--- 96 bytes hold what a station with one virtual address writes
-unfoldable pub roomOf : List ℕ
-roomOf = replicate 96 0
 
 -- the stations and the answer; the room is given up
 abbrev pub movedBy : ListResult → Moved

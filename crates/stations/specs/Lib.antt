@@ -8,4 +8,5 @@ pub mod Latest
 pub mod Theorems
 pub mod List
 pub mod ListTheorems
+pub mod Passing
 pub mod Lent

@@ -3,7 +3,8 @@ use crate::list;
 use crate::station::Station;
 use table::answer::Answered;
 ghost use mathlib.Core.Path.{_≡_};
-ghost use Rattle.stations.specs.Lent.{movedBy, roomOf, steppedBy};
+ghost use Rattle.stations.specs.Lent.{movedBy, steppedBy};
+ghost use Rattle.stations.specs.Passing.{freshRoom};
 ghost use Rattle.stations.specs.List.{startedAt, shutAt, clockedAt, deliveredAt};
 
 // A step, and the numbers of the stations that it is for.
@@ -21,7 +22,7 @@ pub struct Moved {
 
 // Takes one step; refuses as the list does.
 fn step_in(all: [Station; 16], step: Step) -> Moved
-    ensures { λ r. ⌜ r ≡ movedBy (steppedBy step all roomOf) ⌝ }
+    ensures { λ r. ⌜ r ≡ movedBy (steppedBy step all freshRoom) ⌝ }
 {
     let mut stations = all;
     let mut out = [0u8; 96];
@@ -36,28 +37,28 @@ fn step_in(all: [Station; 16], step: Step) -> Moved
 
 // Starts up the station of a number; refuses as `list::startup` does.
 pub fn startup_in(all: [Station; 16], at: usize) -> Moved
-    ensures { λ r. ⌜ r ≡ movedBy (startedAt all at roomOf) ⌝ }
+    ensures { λ r. ⌜ r ≡ movedBy (startedAt all at freshRoom) ⌝ }
 {
     step_in(all, Step::Startup(at))
 }
 
 // Shuts down the station of a number; refuses as `list::shutdown` does.
 pub fn shutdown_in(all: [Station; 16], at: usize) -> Moved
-    ensures { λ r. ⌜ r ≡ movedBy (shutAt all at roomOf) ⌝ }
+    ensures { λ r. ⌜ r ≡ movedBy (shutAt all at freshRoom) ⌝ }
 {
     step_in(all, Step::Shutdown(at))
 }
 
 // Lets so many ticks pass at the station of a number; refuses as `list::clock` does.
 pub fn clock_in(all: [Station; 16], at: usize, ticks: u32) -> Moved
-    ensures { λ r. ⌜ r ≡ movedBy (clockedAt all at ticks roomOf) ⌝ }
+    ensures { λ r. ⌜ r ≡ movedBy (clockedAt all at ticks freshRoom) ⌝ }
 {
     step_in(all, Step::Clock(at, ticks))
 }
 
 // Hands the latest advertisement of one station to another; refuses as `list::deliver` does.
 pub fn deliver_in(all: [Station; 16], from: usize, to: usize) -> Moved
-    ensures { λ r. ⌜ r ≡ movedBy (deliveredAt all from to roomOf) ⌝ }
+    ensures { λ r. ⌜ r ≡ movedBy (deliveredAt all from to freshRoom) ⌝ }
 {
     step_in(all, Step::Deliver(from, to))
 }

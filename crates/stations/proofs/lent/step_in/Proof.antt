@@ -116,7 +116,8 @@ use Rattle.stations.specs.declared.lent.Step.{Step}
 use Rattle.stations.specs.declared.lent.Step.the-variants.{Startup, Shutdown, Clock, Deliver}
 use Rattle.stations.specs.declared.lent.Moved.{Moved}
 use Rattle.stations.specs.List.{ListResult, LeavesList, startedAt, shutAt, clockedAt, deliveredAt}
-use Rattle.stations.specs.Lent.{steppedBy, roomOf, movedBy}
+use Rattle.stations.specs.Passing.{freshRoom}
+use Rattle.stations.specs.Lent.{steppedBy, movedBy}
 use Rattle.stations.proofs.Lending.{lentAs, Again, lends, back}
 use Rattle.stations.proofs.Locals.{envOf, laid, frees-laid}
 use Rattle.stations.proofs.Rows.{R, Answers, told, station-tells, answer-tells, station-makes, answer-typed}
@@ -192,8 +193,8 @@ zeros (suc n) = ((refl, lit< tt), zeros n)
 unfoldable zerosVal : Val
 zerosVal = arrayVal (replicate 96 (vint w8 0))
 
-is-room : Is Bytes roomOf (zerosVal ∷ [])
-unfolding roomOf zerosVal
+is-room : Is Bytes freshRoom (zerosVal ∷ [])
+unfolding freshRoom zerosVal
 is-room = (replicate 96 (vint w8 0), ((refl, refl), zeros 96))
 
 -- what is returned
@@ -285,7 +286,7 @@ module _ {M : Type 1} (𝓤 : URA M) (H : Heap 𝓤) (A : Atoms 𝓤) (W : Given
   all-typed zs is = array-lawful 𝓤 H A W R (LL.lawful S.the-type S′.the-laws 𝓤 H A W) 16 .typed zs _ is .0
 
   room-typed : T (hasTy (tyArray (tyInt w8) 96) zerosVal) × WT zerosVal
-  room-typed = array-lawful 𝓤 H A W u8 (uint-lawful 𝓤 H A W w8) 96 .typed roomOf _ is-room .0
+  room-typed = array-lawful 𝓤 H A W u8 (uint-lawful 𝓤 H A W w8) 96 .typed freshRoom _ is-room .0
 
   moved-typed : (r : Moved) (v : Val) → Is O.the-row r (v ∷ []) → T (hasTy O′.mir v) × WT v
   moved-typed r v is = LL.lawful O.the-type O′.the-laws 𝓤 H A W .typed r _ is .0
@@ -295,7 +296,7 @@ module _ {M : Type 1} (𝓤 : URA M) (H : Heap 𝓤) (A : Atoms 𝓤) (W : Given
       walkOf 𝓤 H A here.ended stayed (here.clauses 𝓤 H A mem run) .post
       ((tt, tt, tt, (ys, (d, tt)), (alls ys ∷ [], (stepVal d ∷ [], tt))), tt)
 
-  exits : (d : Step) (r : Moved) (v : Val) → Is O.the-row r (v ∷ []) → r ≡ movedBy (steppedBy d ys roomOf)
+  exits : (d : Step) (r : Moved) (v : Val) → Is O.the-row r (v ∷ []) → r ≡ movedBy (steppedBy d ys freshRoom)
       → ent 𝓤 (emp 𝓤) (Post d v)
   exits d r v is e =
       qed W [] ∵
@@ -330,7 +331,7 @@ module _ {M : Type 1} (𝓤 : URA M) (H : Heap 𝓤) (A : Atoms 𝓤) (W : Given
 
     -- the way out: both come back, and what is left is returned
     joined : (d : Step) (a : Answered) (zs : List Station) (us : List ℕ) (ν ν₁ : ℕ) (γ γ₁ : GName) (v : Val)
-        → LeavesList (steppedBy d ys roomOf) a zs us
+        → LeavesList (steppedBy d ys freshRoom) a zs us
         → Sq W
         (‵ (finally u8 γ₁ us) ∷ ‵ ftrue ∷ ‵ (finally R γ zs)
         ∷ ((‵ (flft (ν ∷ []) fullShare) ⊛ ‵ (flft (ν₁ ∷ []) fullShare) ⊛ ‵ ftrue) ⊛ ‵ (Answers .own a (v ∷ [])))
@@ -373,7 +374,7 @@ module _ {M : Type 1} (𝓤 : URA M) (H : Heap 𝓤) (A : Atoms 𝓤) (W : Given
     Stations ν γ = MutSlice (named 0) (ν ∷ []) R .own (lentAs 𝓤 H A W R 16 (l 3) γ ys) (stationsVal ∷ [])
 
     abbrev Zeros : ℕ → GName → Fml
-    Zeros ν γ = MutSlice (named 1) (ν ∷ []) u8 .own (lentAs 𝓤 H A W u8 96 (l 4) γ roomOf) (roomVal ∷ [])
+    Zeros ν γ = MutSlice (named 1) (ν ∷ []) u8 .own (lentAs 𝓤 H A W u8 96 (l 4) γ freshRoom) (roomVal ∷ [])
 
     lent-both : {Γ : List (Item 𝓤)} {g : Goal 𝓤 H} → Soaks g
         → ((ν ν₁ : ℕ) (γ γ₁ : GName)
@@ -388,7 +389,7 @@ module _ {M : Type 1} (𝓤 : URA M) (H : Heap 𝓤) (A : Atoms 𝓤) (W : Given
         await ! soaks $ pick ! (λ γ. split ! $
         lft-new ! soaks (λ ν₁. move ! (4 ∷ []) $
         use1 W (later (some (λ (γ₁ : GName). ‵ (Zeros ν₁ γ₁) ⊛ ‵ (flent (ν₁ ∷ []) (Held u8 96 (l 4) 0 γ₁)))))
-        (lends 𝓤 H A W u8 96 (l 4) (uint-makes 𝓤 H A W w8) tt (lit< tt, lit< tt) (named 1) (ν₁ ∷ []) roomOf zerosVal is-room) $
+        (lends 𝓤 H A W u8 96 (l 4) (uint-makes 𝓤 H A W w8) tt (lit< tt, lit< tt) (named 1) (ν₁ ∷ []) freshRoom zerosVal is-room) $
         await ! soaks $ pick ! (λ γ₁. split ! $ move ! (5 ∷ 3 ∷ 2 ∷ 0 ∷ 4 ∷ 1 ∷ []) $ k ν ν₁ γ γ₁))))
 
     -- what a call on the list asks, and the way on from what it gives
@@ -397,7 +398,7 @@ module _ {M : Type 1} (𝓤 : URA M) (H : Heap 𝓤) (A : Atoms 𝓤) (W : Given
       stations = lentAs 𝓤 H A W R 16 (l 3) γ ys
 
       abbrev room : RefT (List ℕ)
-      room = lentAs 𝓤 H A W u8 96 (l 4) γ₁ roomOf
+      room = lentAs 𝓤 H A W u8 96 (l 4) γ₁ freshRoom
 
       abbrev Lent : List (Item 𝓤)
       Lent = ‵ (flft (ν ∷ []) fullShare) ∷ ‵ (Stations ν γ) ∷ ‵ (flft (ν₁ ∷ []) fullShare) ∷ ‵ (Zeros ν₁ γ₁) ∷ []
@@ -449,7 +450,7 @@ module _ {M : Type 1} (𝓤 : URA M) (H : Heap 𝓤) (A : Atoms 𝓤) (W : Given
           move ! (2 ∷ 0 ∷ []) $ fjoin ! $
           nothing ! $ move ! (3 ∷ 0 ∷ []) $ join ! $ move ! (2 ∷ 0 ∷ []) $ join ! $ join ! $ frame ! $ done !
 
-      after-one : (f : One) (i : ℕ) (d : Step) (v : Val) → f ys i roomOf ≡ steppedBy d ys roomOf
+      after-one : (f : One) (i : ℕ) (d : Step) (v : Val) → f ys i freshRoom ≡ steppedBy d ys freshRoom
           → Sq W (raw (ByOne 𝓤 H A f .post (to-one f i) v) ∷ Held′ d) (settles E (place 12 []) v (Then d))
       after-one f i d v same =
           use1 W (later (some (λ (a : Answered). (Tokens ⊛ ‵ (Answers .own a (v ∷ [])))
@@ -457,14 +458,14 @@ module _ {M : Type 1} (𝓤 : URA M) (H : Heap 𝓤) (A : Atoms 𝓤) (W : Given
           await ! tt $ pick ! (λ a. split ! $ move ! (1 ∷ []) $
           use1 W (some (λ (ls : List Station × (Unit {0} × (List ℕ × Unit {0}))).
           ‵ (lasts startup.ended (ν ∷ [], (ν₁ ∷ [], tt)) (to-one f i .0 .3) ls)
-          ⊛ raw (fact 𝓤 (LeavesList (f ys i roomOf) a (ls .0) (ls .1 .1 .0))))) (id⊢ 𝓤 _) $
-          pick ! (λ ls. split ! $ move ! (1 ∷ []) $ heard ! (LeavesList (f ys i roomOf) a (ls .0) (ls .1 .1 .0)) (λ e.
+          ⊛ raw (fact 𝓤 (LeavesList (f ys i freshRoom) a (ls .0) (ls .1 .1 .0))))) (id⊢ 𝓤 _) $
+          pick ! (λ ls. split ! $ move ! (1 ∷ []) $ heard ! (LeavesList (f ys i freshRoom) a (ls .0) (ls .1 .1 .0)) (λ e.
           fsplit ! $ fsplit ! $ move ! (1 ∷ []) $ feqL ! (λ _. move ! (1 ∷ []) $ fsplit ! $ drop ! $
           fsplit ! $ fsplit ! $ move ! (1 ∷ []) $ feqL ! (λ _.
           joined d a (ls .0) (ls .1 .1 .0) ν ν₁ γ γ₁ v
           (subst (λ (result : ListResult). LeavesList result a (ls .0) (ls .1 .1 .0)) same e))))))
 
-      after-two : (w : Width) (f : Two) (i k : ℕ) (d : Step) (v : Val) → f ys i k roomOf ≡ steppedBy d ys roomOf
+      after-two : (w : Width) (f : Two) (i k : ℕ) (d : Step) (v : Val) → f ys i k freshRoom ≡ steppedBy d ys freshRoom
           → Sq W (raw (ByTwo 𝓤 H A w f .post (to-two w f i k) v) ∷ Held′ d) (settles E (place 12 []) v (Then d))
       after-two w f i k d v same =
           use1 W (later (some (λ (a : Answered). (Tokens ⊛ ‵ (Answers .own a (v ∷ [])))
@@ -472,8 +473,8 @@ module _ {M : Type 1} (𝓤 : URA M) (H : Heap 𝓤) (A : Atoms 𝓤) (W : Given
           await ! tt $ pick ! (λ a. split ! $ move ! (1 ∷ []) $
           use1 W (some (λ (ls : List Station × (Unit {0} × (Unit {0} × (List ℕ × Unit {0})))).
           ‵ (lasts (with-two w) (ν ∷ [], (ν₁ ∷ [], tt)) (to-two w f i k .0 .3) ls)
-          ⊛ raw (fact 𝓤 (LeavesList (f ys i k roomOf) a (ls .0) (ls .1 .1 .1 .0))))) (id⊢ 𝓤 _) $
-          pick ! (λ ls. split ! $ move ! (1 ∷ []) $ heard ! (LeavesList (f ys i k roomOf) a (ls .0) (ls .1 .1 .1 .0)) (λ e.
+          ⊛ raw (fact 𝓤 (LeavesList (f ys i k freshRoom) a (ls .0) (ls .1 .1 .1 .0))))) (id⊢ 𝓤 _) $
+          pick ! (λ ls. split ! $ move ! (1 ∷ []) $ heard ! (LeavesList (f ys i k freshRoom) a (ls .0) (ls .1 .1 .1 .0)) (λ e.
           fsplit ! $ fsplit ! $ move ! (1 ∷ []) $ feqL ! (λ _. move ! (1 ∷ []) $ fsplit ! $ drop ! $ fsplit ! $ drop ! $
           fsplit ! $ fsplit ! $ move ! (1 ∷ []) $ feqL ! (λ _.
           joined d a (ls .0) (ls .1 .1 .1 .0) ν ν₁ γ γ₁ v
