@@ -9,10 +9,11 @@ use Rattle.router.specs.declared.step.Event.the-variants.{Startup, Shutdown}
 use Rattle.wire.specs.Check.{Check, firstRefusal}
 use Rattle.table.specs.Configuring.{freed}
 use Rattle.table.specs.declared.answer.Answered.{Answered}
-use Rattle.table.specs.declared.answer.Answered.the-variants.{Refused}
+use Rattle.table.specs.declared.answer.Answered.the-variants.{Done, Refused}
 use Rattle.stations.specs.declared.station.Station.{Station}
 use Rattle.stations.specs.Station.{Result, stationOf}
 use Rattle.stations.specs.Steps.{happenedTo, clockedBy, deliveredTo}
+use Rattle.stations.specs.Passing.{passed}
 
 pub record ListResult : Type 0 where
   pub answer : Answered
@@ -55,6 +56,11 @@ shutAt = steppedAt (λ s room. happenedTo s Shutdown room)
 -- "5 clock" of one station
 abbrev pub clockedAt : List Station → ℕ → ℕ → List ℕ → ListResult
 clockedAt stations at ticks room = steppedAt (λ s room. clockedBy s ticks room) stations at room
+
+-- "5 clock .. each firing as often as due" of one station, which the caller has nothing to hand in for
+abbrev pub passedAt : List Station → ℕ → ℕ → List ℕ → ListResult
+passedAt stations at ticks room =
+    steppedAt (λ s room. record { answer = Done 0 0; station = passed s ticks; room = room }) stations at room
 
 -- "for deliver 26, 28": "26 unused station number", "28 from equals to"
 abbrev pub deliveryChecks : ℕ → ℕ → ℕ → List Check

@@ -1,9 +1,12 @@
 // The stations of a segment in a lent list: each call fetches a station, takes its step by value and stores it.
+// The stations of a segment in a lent list. Each call fetches a station, takes the step by value and stores what it left.
+use crate::passing;
 use crate::station::Station;
 use crate::steps;
 use table::answer::Answered;
 ghost use mathlib.Core.Path.{_≡_};
-ghost use Rattle.stations.specs.List.{LeavesList, startedAt, shutAt, clockedAt, deliveryRefusal, deliveredAt};
+ghost use mathlib.Core.List.{[]};
+ghost use Rattle.stations.specs.List.{LeavesList, startedAt, shutAt, clockedAt, passedAt, deliveryRefusal, deliveredAt};
 
 // Starts up the station of a number; refuses by 26 and by what starting it up refuses.
 pub fn startup(stations: &mut [Station], at: usize, out: &mut [u8]) -> Answered
@@ -51,6 +54,19 @@ pub fn clock(stations: &mut [Station], at: usize, ticks: u32, out: &mut [u8]) ->
     let after = stepped.station;
     stations[at] = after;
     stepped.answer
+}
+
+// Lets so many ticks pass at the station of a number, which fires as often as due; refuses by 26.
+pub fn pass(stations: &mut [Station], at: usize, ticks: u32) -> Answered
+    ensures { λ r. ⌜ LeavesList (passedAt (now (stations .entry)) at ticks []) r (now (stations .exit)) [] ⌝ }
+{
+    if at >= stations.len() {
+        return Answered::Refused(26);
+    }
+    let before = stations[at];
+    let after = passing::pass(before, ticks);
+    stations[at] = after;
+    Answered::Done(0, 0)
 }
 
 // The first of 26 and 28 that a delivery among so many stations is refused by, or 0.
