@@ -1,5 +1,4 @@
 // The stations of a segment in a lent list: each call fetches a station, takes its step by value and stores it.
-// The stations of a segment in a lent list. Each call fetches a station, takes the step by value and stores what it left.
 use crate::passing;
 use crate::station::Station;
 use crate::steps;

@@ -214,9 +214,6 @@ module _ {M : Type 1} (𝓤 : URA M) (H : Heap 𝓤) (A : Atoms 𝓤) (W : Given
   abbrev Lent : List (Item 𝓤)
   Lent = ‵ (MutSlice (named 0) κ R .own (x .0) (sv ∷ [])) ∷ ‵ (flft κ q) ∷ []
 
-  offset-fits : i < length ys → i * 272 < 2 ^ 64
-  offset-fits below = fits-at i (length ys) below (room .1)
-
   mach-is : (r : Station) (v : Val) → Is R r (v ∷ []) → Is R r (mach r ∷ [])
   mach-is r v is = subst (Is R r) (station-tells r _ is) is
 
@@ -238,8 +235,8 @@ module _ {M : Type 1} (𝓤 : URA M) (H : Heap 𝓤) (A : Atoms 𝓤) (W : Given
         qed W (laid 𝓤 m.locals (tested l []) Lent) ∵
         exec ! C Λ (En l) m.t-4 (atRet (En l) Post) $ move ! (22 ∷ 23 ∷ []) $
         -- [the stations'; κ; _0; …]
-        assigns ! (bin ! (load ! (from ! (stop !)) (look ! 6 refl)) (lit ! tt) (record { fits = offset-fits below }))
-        (from ! (stop !)) (store ! 14 refl (tt, (record { fits = offset-fits below }))) $
+        assigns ! (bin ! (load ! (from ! (stop !)) (look ! 6 refl)) (lit ! tt) (fits-at i (length ys) below (room .1)))
+        (from ! (stop !)) (store ! 14 refl (tt, (fits-at i (length ys) below (room .1)))) $
         assigns ! (bin ! (load ! (from ! (fld ! refl (stop !))) (look-in ! 4 (sub ! 0 refl (whole !))))
         (load ! (from ! (stop !)) (look ! 14 refl)) tt) (from ! (stop !)) (init ! 18 refl (tt, tt)) $
         rewrite ! 18 (λ (p : ℕ). ‵ (fat fullShare tyPtr (l 8) 0 (vptr b p))) (sym (place-is 272 o i)) refl $
@@ -261,8 +258,8 @@ module _ {M : Type 1} (𝓤 : URA M) (H : Heap 𝓤) (A : Atoms 𝓤) (W : Given
         -- [stations[at]; the others; the open borrow; obs; auth; _0; …]
         land ! (from ! (stop !)) (init ! 15 refl (LL.lawful T.the-type T′.the-laws 𝓤 H A W .typed r _ is .0)) $
         rewrite ! 15 (λ (u : Val). ‵ (fat fullShare T′.mir (l 5) 0 u)) (ap only (station-tells r _ is)) refl $
-        assigns ! (bin ! (load ! (from ! (stop !)) (look ! 9 refl)) (lit ! tt) (record { fits = offset-fits below }))
-        (from ! (stop !)) (store ! 17 refl (tt, (record { fits = offset-fits below }))) $
+        assigns ! (bin ! (load ! (from ! (stop !)) (look ! 9 refl)) (lit ! tt) (fits-at i (length ys) below (room .1)))
+        (from ! (stop !)) (store ! 17 refl (tt, (fits-at i (length ys) below (room .1)))) $
         assigns ! (bin ! (load ! (from ! (fld ! refl (stop !))) (look-in ! 7 (sub ! 0 refl (whole !))))
         (load ! (from ! (stop !)) (look ! 17 refl)) tt) (from ! (stop !)) (init ! 25 refl (tt, tt)) $
         rewrite ! 25 (λ (p : ℕ). ‵ (fat fullShare tyPtr (l 10) 0 (vptr b p))) (sym (place-is 272 o i)) refl $
