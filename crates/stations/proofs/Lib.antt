@@ -15,3 +15,4 @@ mod Rows
 mod Stepping
 pub mod ListTheorems
 mod Lending
+mod Moving
