@@ -13,6 +13,15 @@ second_segment.py elections < STREAM > LINES   hold elections, one line each; `b
   line: BEFORE AFTER MASTER
     a letter a station before and after the deliveries, and the number of the one Master that remains, - where it is
     not one; all stations have VRID 1, interval 1 and the virtual address 192.168.1.254
+second_segment.py rehearse < SCRIPT > LINES    rehearse a segment; a refusal is the last line
+    1 segment: VRID, interval, virtual address (4)
+    2 station: priority, preempt 0 or 1, primary (4)
+    3 startup, 4 shutdown: station
+    5 clock: ticks (2)
+    6 deliver: from, to
+  line, after kinds 3 to 6: NUMBER LETTERS
+    the record's number from 1, and a letter a station
+  line, at a refusal: NUMBER refused REFUSAL
 second_segment.py selftest                     try the segment on the rule book's worked examples
 """
 
@@ -134,6 +143,98 @@ def elections(content):
         yield "bad record"
 
 
+# The rehearsal.
+
+
+MOST_SCRIPT_BYTES = 65536
+SEGMENT, STATION, STARTUP, SHUTDOWN, CLOCK, DELIVER = range(1, 7)
+BODY_BYTES = {SEGMENT: 6, STATION: 6, STARTUP: 1, SHUTDOWN: 1, CLOCK: 2, DELIVER: 2}
+
+
+class Refused(Exception):
+    """The script is refused; the argument is the refusal's number."""
+
+
+def refuse(number, condition):
+    """Refuse the script by this number where the condition holds."""
+    if condition:
+        raise Refused(number)
+
+
+def take_record(stream):
+    """The kind and the body of the next record; refuses 23 and 24."""
+    kind = stream.number(1)
+    refuse(23, kind not in BODY_BYTES)
+    refuse(24, stream.left() < BODY_BYTES[kind])
+    return kind, stream.take(BODY_BYTES[kind])
+
+
+class Rehearsal:
+    """What the script has set up so far: the segment, None before the first record, and its stations."""
+
+    def __init__(self):
+        self.segment = None
+        self.stations = []
+
+    def play(self, kind, body):
+        """Do what the record says; refuses 25, and what its kind refuses."""
+        refuse(25, (kind == SEGMENT) != (self.segment is None))
+        plays = {SEGMENT: self.play_segment, STATION: self.play_station, STARTUP: self.play_startup,
+                 SHUTDOWN: self.play_shutdown, CLOCK: self.play_clock, DELIVER: self.play_deliver}
+        plays[kind](body)
+
+    def play_segment(self, body):
+        """Refuses 14 and 16."""
+        refuse(14, body[0] == 0)
+        refuse(16, body[1] == 0)
+        self.segment = Segment(body[0], body[1], body[2:])
+
+    def play_station(self, body):
+        """Refuses 27, 15 and 29."""
+        refuse(27, len(self.stations) == MOST_STATIONS)
+        refuse(15, body[0] == 0)
+        refuse(29, body[1] > 1)
+        self.stations.append(Station(self.segment, body[0], body[1] == 1, body[2:]))
+
+    def station(self, number):
+        """The station of this number; refuses 26."""
+        refuse(26, number >= len(self.stations))
+        return self.stations[number]
+
+    def play_startup(self, body):
+        self.station(body[0]).startup()
+
+    def play_shutdown(self, body):
+        self.station(body[0]).shutdown()
+
+    def play_clock(self, body):
+        for station in self.stations:
+            station.clock(int.from_bytes(body, "big"))
+
+    def play_deliver(self, body):
+        """Refuses 26 for either station, then 28."""
+        sender, receiver = [self.station(number) for number in body]
+        refuse(28, sender is receiver or sender.latest is None)
+        receiver.hear(sender.latest)
+
+
+def rehearse(script):
+    """The lines for a script."""
+    if len(script) > MOST_SCRIPT_BYTES:
+        yield "0 refused 30"
+        return
+    stream, rehearsal, number = second.Stream(script), Rehearsal(), 0
+    try:
+        while stream.left():
+            number += 1
+            kind, body = take_record(stream)
+            rehearsal.play(kind, body)
+            if kind not in (SEGMENT, STATION):
+                yield f"{number} {letters(rehearsal.stations)}"
+    except Refused as refused:
+        yield f"{number} refused {refused.args[0]}"
+
+
 # The selftest: expectations are typed from the rule book, none is computed by the code under test.
 
 
@@ -222,6 +323,59 @@ def selftest_bad_elections():
         expect(what, list(elections(good + record + good)), ["MM BM 1", "bad record"])
 
 
+EXAMPLE = """01 01 01 C0A801FE / 02 64 01 C0A80109 / 02 64 01 C0A8010A / 03 00 / 03 01 / 05 03 9C / 06 00 01
+             06 01 00"""
+ON_SEGMENT = "01 01 01 C0A801FE "
+ONE_STATION = ON_SEGMENT + "02 64 01 C0A80109 "
+TWO_STATIONS = ONE_STATION + "02 64 01 C0A8010A "
+
+
+def rehearsed(text):
+    """The lines for a script in hex, in which / stands between records."""
+    return list(rehearse(bytes.fromhex(text.replace("/", " "))))
+
+
+def selftest_rehearsal():
+    expect("the worked example", rehearsed(EXAMPLE), ["4 BI", "5 BB", "6 MM", "7 MM", "8 BM"])
+    expect("an empty script", rehearsed(""), [])
+    expect("a clock without stations", rehearsed(ON_SEGMENT + "05 00 01"), ["2 "])
+    expect("a station that comes later", rehearsed(ONE_STATION + "03 00 02 FF 00 C0A801FE 03 01"), ["3 B", "5 BM"])
+    away = TWO_STATIONS + "03 00 05 03 9C 04 00 03 01 "
+    # The farewell of station 0 sets station 1's timer to its skew, 156 ticks, also after station 0 has started again.
+    expect("a farewell", rehearsed(away + "06 00 01 05 00 9B 05 00 01")[3:], ["7 IB", "8 IB", "9 IB", "10 IM"])
+    expect("a farewell, later", rehearsed(away + "03 00 06 00 01 05 00 9C")[4:], ["8 BB", "9 BB", "10 BM"])
+    expect("no farewell", rehearsed(away + "05 00 9C")[3:], ["7 IB", "8 IB"])
+    expect("startup twice, shutdown twice", rehearsed(ONE_STATION + "03 00 03 00 04 00 04 00"),
+           ["3 B", "4 B", "5 I", "6 I"])
+
+
+def selftest_refusals():
+    for what, script, due in (
+        ("23 first", "07", "1 refused 23"),
+        ("23 before 25", "00 00", "1 refused 23"),
+        ("23 ends it", TWO_STATIONS + "08 03 00", "4 refused 23"),
+        ("24 before 25", "02 64 01 C0A801", "1 refused 24"),
+        ("24 in a second segment", ON_SEGMENT + "01 00", "2 refused 24"),
+        ("25 first", "05 00 01", "1 refused 25"),
+        ("25 before 14", ON_SEGMENT + "01 00 00 00000000", "2 refused 25"),
+        ("14 before 16", "01 00 00 C0A801FE", "1 refused 14"),
+        ("16", "01 01 00 C0A801FE", "1 refused 16"),
+        ("27 before 15", ON_SEGMENT + 16 * "02 64 01 C0A80109 " + "02 00 02 C0A80109", "18 refused 27"),
+        ("15 before 29", ON_SEGMENT + "02 00 02 C0A80109", "2 refused 15"),
+        ("29", ON_SEGMENT + "02 01 02 C0A80109", "2 refused 29"),
+        ("26 at startup", ONE_STATION + "03 01", "3 refused 26"),
+        ("26 at shutdown", ONE_STATION + "04 01", "3 refused 26"),
+        ("26 before 28", ONE_STATION + "06 01 01", "3 refused 26"),
+        ("26 of the receiver", ONE_STATION + "06 00 01", "3 refused 26"),
+        ("28 to itself", ONE_STATION + "06 00 00", "3 refused 28"),
+        ("28 before it has sent", TWO_STATIONS + "06 00 01", "4 refused 28"),
+    ):
+        expect(what, rehearsed(script), [due])
+    longest = bytes.fromhex(ON_SEGMENT) + 21843 * b"\x05\x00\x00"
+    expect("65,536 bytes", list(rehearse(longest))[-1], "21844 ")
+    expect("65,537 bytes", list(rehearse(longest + b"\x07")), ["0 refused 30"])
+
+
 # The commands: each answers its exit status.
 
 
@@ -231,14 +385,21 @@ def command_elections():
     return 0
 
 
+def command_rehearse():
+    for line in rehearse(sys.stdin.buffer.read()):
+        print(line)
+    return 0
+
+
 def command_selftest():
-    for selftest in (selftest_stations, selftest_firing, selftest_elections, selftest_bad_elections):
+    for selftest in (selftest_stations, selftest_firing, selftest_elections, selftest_bad_elections,
+                     selftest_rehearsal, selftest_refusals):
         selftest()
     print("selftest: all as the rule book says")
     return 0
 
 
-COMMANDS = {"elections": command_elections, "selftest": command_selftest}
+COMMANDS = {"elections": command_elections, "rehearse": command_rehearse, "selftest": command_selftest}
 
 
 def main(arguments):
