@@ -8,14 +8,13 @@ made files with those there.
 
 import sys
 from pathlib import Path
-from textwrap import fill
 
 HERE = Path(__file__).resolve().parent
 sys.dont_write_bytecode = True
 sys.path.insert(0, str(HERE.parent))
 
 import second_segment
-from cases.mutate import keep
+from cases.folder import Entry, files_of, keep_folder, text_of
 from elections import by_hand, drawn, laws
 from elections.ballots import record
 
@@ -80,35 +79,21 @@ PARTS = (
 )
 
 
+def entry(hold, function):
+    """The files of some elections and what the list says of them."""
+    records, lines = hold(function)
+    return Entry(function.__name__, f"{len(lines)} line{'' if len(lines) == 1 else 's'}", function.__doc__,
+                 {".records": records, ".lines": text_of(lines).encode()})
+
+
 def made():
     """The files by their paths."""
-    files, listed = {}, [HEAD]
-    for title, hold, functions in PARTS:
-        listed.append(f"## {title}\n")
-        for function in functions:
-            name = function.__name__
-            records, lines = hold(function)
-            files[HERE / f"{name}.records"] = records
-            files[HERE / f"{name}.lines"] = "".join(line + "\n" for line in lines).encode()
-            about = f"- `{name}`, {len(lines)} lines. {function.__doc__}"
-            listed.append(fill(about, 120, subsequent_indent="  ", break_on_hyphens=False))
-        listed.append("")
-    files[HERE / "README.md"] = "\n".join(listed[:-1] + [""]).encode()
-    return files
-
-
-def strays(files):
-    """The names of elections there that are not made here."""
-    return sorted(path.name for path in HERE.iterdir() if path.suffix in (".records", ".lines") and path not in files)
+    return files_of(HERE, HEAD, [(title, [entry(hold, function) for function in functions])
+                                 for title, hold, functions in PARTS])
 
 
 def main(arguments):
-    files = made()
-    status = keep(files, arguments)
-    for name in strays(files):
-        print(f"{name} is not made by make.py", file=sys.stderr)
-        status = status or 1
-    return status
+    return keep_folder(HERE, made(), arguments)
 
 
 if __name__ == "__main__":

@@ -8,14 +8,13 @@ With --check it compares the made files with those there.
 
 import sys
 from pathlib import Path
-from textwrap import fill
 
 HERE = Path(__file__).resolve().parent
 sys.dont_write_bytecode = True
 sys.path.insert(0, str(HERE.parent))
 
 import second_table
-from cases.mutate import keep
+from cases.folder import Entry, files_of, keep_folder, text_of
 from histories import by_refusal, by_rule_book, by_unh, drawn, laws
 from histories.steps import complaint, configure, new, startup
 
@@ -91,35 +90,21 @@ PARTS = (
 )
 
 
+def entry(play, history):
+    """A history's files and what the list says of it."""
+    records, lines = play(history)
+    return Entry(history.__name__, f"{len(lines)} lines", history.__doc__,
+                 {".records": records, ".lines": text_of(lines).encode()})
+
+
 def made():
     """The files by their paths."""
-    files, listed = {}, [HEAD]
-    for title, play, histories in PARTS:
-        listed.append(f"## {title}\n")
-        for history in histories:
-            name = history.__name__
-            records, lines = play(history)
-            files[HERE / f"{name}.records"] = records
-            files[HERE / f"{name}.lines"] = "".join(line + "\n" for line in lines).encode()
-            about = f"- `{name}`, {len(lines)} lines. {history.__doc__}"
-            listed.append(fill(about, 120, subsequent_indent="  ", break_on_hyphens=False))
-        listed.append("")
-    files[HERE / "README.md"] = "\n".join(listed[:-1] + [""]).encode()
-    return files
-
-
-def strays(files):
-    """The names of histories there that are not made here."""
-    return sorted(path.name for path in HERE.iterdir() if path.suffix in (".records", ".lines") and path not in files)
+    return files_of(HERE, HEAD, [(title, [entry(play, history) for history in histories])
+                                 for title, play, histories in PARTS])
 
 
 def main(arguments):
-    files = made()
-    status = keep(files, arguments)
-    for name in strays(files):
-        print(f"{name} is not made by make.py", file=sys.stderr)
-        status = status or 1
-    return status
+    return keep_folder(HERE, made(), arguments)
 
 
 if __name__ == "__main__":

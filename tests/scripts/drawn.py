@@ -55,9 +55,10 @@ def good_script(dice, records, stations):
 
 
 def drawn_good():
-    """Scripts of 20 to 320 records that are not refused."""
+    """Scripts of 20 to 320 records that are not refused, and one of 2,000."""
     dice = Dice(1)
-    return [Script(good_script(dice, 20 + 10 * place, 1 + dice.below(16)), None) for place in range(31)]
+    drawn = [good_script(dice, records, 1 + dice.below(16)) for records in range(20, 330, 10)]
+    return [Script(content, None) for content in drawn + [good_script(dice, 2000, 5)]]
 
 
 def drawn_events():

@@ -8,14 +8,13 @@ files with those there.
 
 import sys
 from pathlib import Path
-from textwrap import fill
 
 HERE = Path(__file__).resolve().parent
 sys.dont_write_bytecode = True
 sys.path.insert(0, str(HERE.parent))
 
 import second_segment
-from cases.mutate import keep
+from cases.folder import Entry, files_of, keep_folder, text_of
 from scripts import by_event, by_refusal, drawn, laws
 
 HEAD = """# Scripts of the rehearsal
@@ -43,39 +42,26 @@ def printed(name, place, script):
         wrong.append(f"typed {script.due}: {lines}")
     if wrong:
         raise SystemExit(f"{name}: script {place}: {wrong[0]}: {script.content[:80].hex()}")
-    return "".join(line + "\n" for line in lines)
+    return text_of(lines)
+
+
+def entry(function):
+    """The files of some scripts and what the list says of them."""
+    name, scripts = function.__name__, function()
+    contents = [script.content for script in scripts]
+    texts = [printed(name, place, script) for place, script in enumerate(scripts, 1)]
+    return Entry(name, f"{len(scripts)} scripts", function.__doc__, {
+        ".scripts": b"".join(len(content).to_bytes(4, "big") + content for content in contents),
+        ".lines": "".join(f"{len(text)}\n{text}" for text in texts).encode()})
 
 
 def made():
     """The files by their paths."""
-    files, listed = {}, [HEAD]
-    for title, functions in PARTS:
-        listed.append(f"## {title}\n")
-        for function in functions:
-            name, scripts = function.__name__, function()
-            texts = [printed(name, place, script) for place, script in enumerate(scripts, 1)]
-            files[HERE / f"{name}.scripts"] = b"".join(len(script.content).to_bytes(4, "big") + script.content
-                                                       for script in scripts)
-            files[HERE / f"{name}.lines"] = "".join(f"{len(text)}\n{text}" for text in texts).encode()
-            about = f"- `{name}`, {len(scripts)} scripts. {function.__doc__}"
-            listed.append(fill(about, 120, subsequent_indent="  ", break_on_hyphens=False))
-        listed.append("")
-    files[HERE / "README.md"] = "\n".join(listed[:-1] + [""]).encode()
-    return files
-
-
-def strays(files):
-    """The names of scripts there that are not made here."""
-    return sorted(path.name for path in HERE.iterdir() if path.suffix in (".scripts", ".lines") and path not in files)
+    return files_of(HERE, HEAD, [(title, [entry(function) for function in functions]) for title, functions in PARTS])
 
 
 def main(arguments):
-    files = made()
-    status = keep(files, arguments)
-    for name in strays(files):
-        print(f"{name} is not made by make.py", file=sys.stderr)
-        status = status or 1
-    return status
+    return keep_folder(HERE, made(), arguments)
 
 
 if __name__ == "__main__":
