@@ -73,12 +73,8 @@ class Station:
             ticks = leftover % advertisement_interval(self.router)
 
     def hear(self, frame):
+        """Take the packet that the frame of another station carries."""
         self.happens(self.table.packet, frame[second.ETHERNET_BYTES:])
-
-
-def deliver(stations, sender, receiver):
-    """Hand the latest advertisement of one station to another."""
-    stations[receiver].hear(stations[sender].latest)
 
 
 def letters(stations):
@@ -129,7 +125,7 @@ def hold_election(stream):
     before = letters(stations)
     for sender, receiver in [take_delivery(stream, count) for _ in range(stream.number(2))]:
         if sender != receiver and stations[sender].latest:
-            deliver(stations, sender, receiver)
+            stations[receiver].hear(stations[sender].latest)
     return f"{before} {letters(stations)} {one_master(stations)}"
 
 

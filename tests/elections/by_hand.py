@@ -140,6 +140,11 @@ def one_election():
     return rule_book()[:1]
 
 
+def no_elections():
+    """No records, no lines."""
+    return []
+
+
 ELECTIONS = [rule_book, ties, priorities, owners, states, preempts, equal_addresses, missing, sizes, most_deliveries,
              one_election]
 

@@ -61,21 +61,13 @@ def bad(function):
     return records, lines
 
 
-def empty(_function):
-    return b"", []
-
-
-def no_elections():
-    """No records, no lines."""
-
-
 PARTS = (
     ("Made by hand", held, by_hand.ELECTIONS),
     ("Where each Master reaches every other, and one Master remains", reaching,
      [drawn.orders_of_equals, drawn.orders_with_owner, drawn.drawn_reaching]),
     ("Drawn from a seed", held, [drawn.drawn_missing, drawn.drawn_alike]),
     ("Bad records, between good ones", bad, by_hand.BAD),
-    ("The empty stream", empty, [no_elections]),
+    ("The empty stream", held, [by_hand.no_elections]),
 )
 
 

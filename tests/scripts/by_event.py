@@ -128,10 +128,10 @@ def farewells():
         # Master again, it has not.
         script(f"{lines}, 6 II, 7 BI, 8 MI, 9 MB, 10 MB, 11 MB", up, shutdown(0), startup(0), TAKEOVER, startup(1),
                deliver(0, 1), clock(156)),
-        # Preempt does not matter, nor does the skew of P 254 and P 1.
+        # Each waits its own skew, 256 - P ticks, whatever its preempt is.
         *[script(f"{lines}, 6 II, 8 IIB, 9 IIB, 10 IIB, 11 IIM", up, shutdown(0),
                  station("192.168.1.11", priority, preempt), startup(2), deliver(0, 2), clock(255 - priority), clock(1))
-          for priority in (1, 100, 253) for preempt in (0, 1)],
+          for priority in (1, 100, 254) for preempt in (0, 1)],
         # A Master answers and stays, even one whom the sender would beat.
         script("4 BI, 5 BB, 6 MM, 7 MI, 8 MI, 9 MI, 10 MB, 11 MB, 12 MM", PAIR, startup(0), startup(1), TAKEOVER,
                shutdown(1), deliver(1, 0), deliver(1, 0), startup(1), deliver(0, 1), TAKEOVER),

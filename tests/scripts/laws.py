@@ -98,9 +98,10 @@ def complaints(content, lines):
         kind, body = content[at], content[at + 1:at + LENGTHS[content[at]]]
         letters = ""
         if kind not in (SEGMENT, STATION):
-            word, _, letters = left.pop(0).partition(" ") if left else ("no line", "", "")
-            if word != str(number) or not told.letters_are_right(kind, body, letters):
-                return [f"record {number}: {told.letters} before it: {word} {letters}"]
+            line = left.pop(0) if left else "no line"
+            letters = line.partition(" ")[2]
+            if line != f"{number} {letters}" or not told.letters_are_right(kind, body, letters):
+                return [f"record {number}: {told.letters} before it: {line}"]
         told.take(kind, body, letters)
         at += LENGTHS[kind]
     return [f"lines after the end: {left[0]}"] if left else []
