@@ -35,8 +35,8 @@ REASONS = {
 }
 
 
-class Unreadable(Exception):
-    """There is no script to rehearse."""
+class Failed(Exception):
+    """No script could be read, or the program failed."""
 
 
 # Reading the script.
@@ -50,7 +50,7 @@ def read_text(content):
             try:
                 part = bytes.fromhex(word.decode())
             except ValueError:
-                raise Unreadable(f"line {number}: {word.decode(errors='replace')} is not bytes in hex") from None
+                raise Failed(f"line {number}: {word.decode(errors='replace')} is not bytes in hex") from None
             script += part
             lines += [number] * len(part)
     return bytes(script), lines
@@ -118,7 +118,7 @@ def printed_by(command, script):
     """The lines that the program prints for the script."""
     ended = subprocess.run(command, input=script, stdout=subprocess.PIPE, check=False)
     if ended.returncode != 0:
-        raise Unreadable(f"the program ended with status {ended.returncode}")
+        raise Failed(f"the program ended with status {ended.returncode}")
     return ended.stdout.decode().splitlines()
 
 
@@ -148,7 +148,7 @@ def main(emulator, program, *arguments):
     try:
         content = Path(options.script).read_bytes() if options.script else sys.stdin.buffer.read()
         return rehearse(command, content, options.words)
-    except (Unreadable, OSError) as trouble:
+    except (Failed, OSError) as trouble:
         print(f"rehearse: {trouble}", file=sys.stderr)
         return 2
 
