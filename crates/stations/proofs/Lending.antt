@@ -56,8 +56,9 @@ module _ {M : Type 1} (𝓤 : URA M) (H : Heap 𝓤) (A : Atoms 𝓤) (W : Given
   Lends ℓ κ xs m γ =
       sep 𝓤 (sem 𝓤 H A (MutSlice ℓ κ R .own (lentAs γ xs) (sliceVal (b, 0) m ∷ []))) (A .lent κ (Held R m b 0 γ))
 
-  pub lends : Makes 𝓤 H A R (Is R) → Single (R .mir) → Room R n → (ℓ : Lifetime) (κ : Lft) (xs : List (R .Denot)) (u : Val)
-      → Is (Array R n) xs (u ∷ []) → ent 𝓤 (H .at fullShare (tyArray (lone (R .mir)) n) b 0 u) (H .⇛ (ex 𝓤 (Lends ℓ κ xs n)))
+  pub lends : Makes 𝓤 H A R (Is R) → Single (R .mir) → Room R n → (ℓ : Lifetime) (κ : Lft) (xs : List (R .Denot))
+      (u : Val) → Is (Array R n) xs (u ∷ [])
+      → ent 𝓤 (H .at fullShare (tyArray (lone (R .mir)) n) b 0 u) (H .⇛ (ex 𝓤 (Lends ℓ κ xs n)))
   unfolding partOf
   lends makes single room ℓ κ xs u is =
       qed W (‵ (fat fullShare (tyArray (lone (R .mir)) n) b 0 u) ∷ []) ∵
@@ -74,7 +75,8 @@ module _ {M : Type 1} (𝓤 : URA M) (H : Heap 𝓤) (A : Atoms 𝓤) (W : Given
     -- the array at its last values
     abbrev pub Again : List (R .Denot) → Item 𝓤
     Again zs =
-        given (Is (Array R n) zs (array-vals vals zs)) (‵ (fat fullShare (tyArray (lone (R .mir)) n) b 0 (only (array-vals vals zs))))
+        given (Is (Array R n) zs (array-vals vals zs))
+        (‵ (fat fullShare (tyArray (lone (R .mir)) n) b 0 (only (array-vals vals zs))))
 
     of-cells : (zs : List (R .Denot)) → ent 𝓤 (sem 𝓤 H A (Arr (mem R) n .lies zs b 0))
         (guard 𝓤 (Is (Array R n) zs (array-vals vals zs))

@@ -16,3 +16,4 @@ mod Stepping
 pub mod ListTheorems
 mod Lending
 mod Moving
+mod OnList

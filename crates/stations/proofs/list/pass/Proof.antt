@@ -168,9 +168,9 @@ module _ {M : Type 1} (𝓤 : URA M) (H : Heap 𝓤) (A : Atoms 𝓤) (mem : Mem
   passed-of d k r =
       exE 𝓤 _ (λ ws. snd∗ 𝓤 (sem 𝓤 H A (lasts pass.ended tt (d, (k, tt)) ws)) (fact 𝓤 (r ≡ passed d k)))
 
-module _ {M : Type 1} (𝓤 : URA M) (H : Heap 𝓤) (A : Atoms 𝓤) (W : Given 𝓤 H A) (mem : Memory → SProp 𝓤) (run : Routine → Fun 𝓤)
-    (κ : Lft) (q : Share) (b o : ℕ) (γ : GName) (ys : List Station) (i k : ℕ) (gi : i < 2 ^ 64) (gk : k < 2 ^ 32)
-    (room : Room R (length ys)) where
+module _ {M : Type 1} (𝓤 : URA M) (H : Heap 𝓤) (A : Atoms 𝓤) (W : Given 𝓤 H A) (mem : Memory → SProp 𝓤)
+    (run : Routine → Fun 𝓤) (κ : Lft) (q : Share) (b o : ℕ) (γ : GName) (ys : List Station) (i k : ℕ)
+    (gi : i < 2 ^ 64) (gk : k < 2 ^ 32) (room : Room R (length ys)) where
   abbrev Arg : Type 0
   Arg = RefT (List Station) × (ℕ × (ℕ × Unit {0}))
 
@@ -209,7 +209,8 @@ module _ {M : Type 1} (𝓤 : URA M) (H : Heap 𝓤) (A : Atoms 𝓤) (W : Given
   abbrev tested : (ℕ → ℕ) → List Val → List (ℕ × List Val)
   tested l r =
       (l 0, r) ∷ (l 1, sv ∷ []) ∷ (l 2, vint w64 i ∷ []) ∷ (l 3, vint w32 k ∷ []) ∷ (l 4, []) ∷ (l 5, [])
-      ∷ (l 6, vint w64 (length ys) ∷ []) ∷ (l 7, vbool (leb (length ys) i) ∷ []) ∷ (l 8, []) ∷ (l 9, []) ∷ (l 10, []) ∷ []
+      ∷ (l 6, vint w64 (length ys) ∷ []) ∷ (l 7, vbool (leb (length ys) i) ∷ [])
+      ∷ (l 8, []) ∷ (l 9, []) ∷ (l 10, []) ∷ []
 
   abbrev Lent : List (Item 𝓤)
   Lent = ‵ (MutSlice (named 0) κ R .own (x .0) (sv ∷ [])) ∷ ‵ (flft κ q) ∷ []
@@ -224,7 +225,8 @@ module _ {M : Type 1} (𝓤 : URA M) (H : Heap 𝓤) (A : Atoms 𝓤) (W : Given
   goes : ent 𝓤 (sem 𝓤 H A (R .own elem (mach elem ∷ []))) (Passed 𝓤 H A mem run .pre to-pass)
   goes =
       qed W (‵ (R .own elem (mach elem ∷ [])) ∷ []) ∵
-      nothing ! $ owned ! u32 (Is u32) (uint-makes 𝓤 H A W w32) k _ (refl, gk) $ fjoin ! $ move ! (1 ∷ 0 ∷ []) $ fjoin ! $
+      nothing ! $ owned ! u32 (Is u32) (uint-makes 𝓤 H A W w32) k _ (refl, gk) $ fjoin ! $
+      move ! (1 ∷ 0 ∷ []) $ fjoin ! $
       nothing ! $ join ! $ frame ! $ done !
 
   module _ (C : Calls 𝓤 H) (Λ : Loops 𝓤 H) (fm : FmC 𝓤 H (W .laws) C)
@@ -241,7 +243,8 @@ module _ {M : Type 1} (𝓤 : URA M) (H : Heap 𝓤) (A : Atoms 𝓤) (W : Given
         (load ! (from ! (stop !)) (look ! 14 refl)) tt) (from ! (stop !)) (init ! 18 refl (tt, tt)) $
         rewrite ! 18 (λ (p : ℕ). ‵ (fat fullShare tyPtr (l 8) 0 (vptr b p))) (sym (place-is 272 o i)) refl $
         fsplit ! $ drop ! $ fsplit ! $ opens-slice ! tt R ys b o $
-        elem-out ! R (Is R) (shows 𝓤 H A R) (LL.vals T.the-type T′.the-laws) station-tells fullShare ys i nowhere b o below (λ g.
+        elem-out ! R (Is R) (shows 𝓤 H A R) (LL.vals T.the-type T′.the-laws) station-tells fullShare ys i
+        nowhere b o below (λ g.
         -- [stations[at]; what it owns; the others; the open borrow; obs; auth; _0; …]
         assigns ! (of-opd ! (load ! (from ! (hop ! (look ! 22 refl) (stop !))) (look-raw ! 0 refl))) (from ! (stop !))
         (init ! 24 refl (station-typed 𝓤 H A W elem g)) $
@@ -249,7 +252,8 @@ module _ {M : Type 1} (𝓤 : URA M) (H : Heap 𝓤) (A : Atoms 𝓤) (W : Given
         (init ! 14 refl (station-typed 𝓤 H A W elem g)) $
         move ! (1 ∷ []) $ use1 W (raw (Passed 𝓤 H A mem run .pre to-pass)) goes $
         calls-at ! fm (Passed 𝓤 H A mem run) known to-pass
-        (and-then ! (load ! (from ! (stop !)) (look ! 14 refl)) (and-then ! (load ! (from ! (stop !)) (look ! 12 refl)) (no-more !))) (λ v.
+        (and-then ! (load ! (from ! (stop !)) (look ! 14 refl))
+        (and-then ! (load ! (from ! (stop !)) (look ! 12 refl)) (no-more !))) (λ v.
         use1 W (later (some (λ (r : Station). (‵ ftrue ⊛ ‵ (R .own r (v ∷ [])))
         ⊛ raw (ensured 𝓤 H A pass.ended (pass.clauses 𝓤 H A mem run) tt (elem, (k, tt)) tt r)))) (id⊢ 𝓤 _) $
         await ! tt $ pick ! (λ r. split ! $ move ! (1 ∷ []) $
@@ -265,23 +269,28 @@ module _ {M : Type 1} (𝓤 : URA M) (H : Heap 𝓤) (A : Atoms 𝓤) (W : Given
         rewrite ! 25 (λ (p : ℕ). ‵ (fat fullShare tyPtr (l 10) 0 (vptr b p))) (sym (place-is 272 o i)) refl $
         assigns ! (of-opd ! (load ! (from ! (stop !)) (look ! 15 refl))) (from ! (hop ! (look ! 25 refl) (stop !)))
         (store-raw ! 0 refl (station-typed 𝓤 H A W r (mach-is r v is))) $
-        assigns ! (agg ! (and-then ! (lit ! tt) (and-then ! (lit ! tt) (and-then ! (lit ! tt) (no-more !))))) (from ! (stop !))
+        assigns ! (agg ! (and-then ! (lit ! tt) (and-then ! (lit ! tt) (and-then ! (lit ! tt) (no-more !)))))
+        (from ! (stop !))
         (init ! 5 refl (answer-typed 𝓤 H A W (Done 0 0) nothing-left)) $
         owned ! R (Is R) (station-makes 𝓤 H A) r (mach r ∷ []) (mach-is r v is) $
         move ! (1 ∷ 0 ∷ []) $ elem-put ! R fullShare ys i r (mach r ∷ []) b o below $
         closes-slice ! tt R ys (set ys i r) (length-set ys i r) b o $
         -- [obs; the borrow; κ; _0; …]
         returns ! (look ! 3 refl) $
-        move ! (3 ∷ 4 ∷ 5 ∷ 6 ∷ 7 ∷ 8 ∷ 9 ∷ 10 ∷ 11 ∷ 12 ∷ 13 ∷ 14 ∷ 15 ∷ 16 ∷ 17 ∷ 18 ∷ 19 ∷ 20 ∷ 21 ∷ 22 ∷ 23 ∷ 24 ∷ []) $
+        move ! (3 ∷ 4 ∷ 5 ∷ 6 ∷ 7 ∷ 8 ∷ 9 ∷ 10 ∷ 11 ∷ 12 ∷ 13 ∷ 14
+        ∷ 15 ∷ 16 ∷ 17 ∷ 18 ∷ 19 ∷ 20 ∷ 21 ∷ 22 ∷ 23 ∷ 24 ∷ []) $
         frees-laid ! m.locals
-        ((l 0, told (Done 0 0) ∷ []) ∷ (l 1, sv ∷ []) ∷ (l 2, vint w64 i ∷ []) ∷ (l 3, vint w32 k ∷ []) ∷ (l 4, mach elem ∷ [])
-        ∷ (l 5, mach r ∷ []) ∷ (l 6, vint w64 (i * 272) ∷ []) ∷ (l 7, vbool (leb (length ys) i) ∷ [])
-        ∷ (l 8, vptr b (place 272 o i) ∷ []) ∷ (l 9, mach elem ∷ []) ∷ (l 10, vptr b (place 272 o i) ∷ []) ∷ [])
-        (use1 W (‵ (fres γ (codedHoleys R .code (heres R (set ys i r))))) (W .names .obs-res γ (codedHoleys R .code (heres R (set ys i r)))) $
+        ((l 0, told (Done 0 0) ∷ []) ∷ (l 1, sv ∷ []) ∷ (l 2, vint w64 i ∷ []) ∷ (l 3, vint w32 k ∷ [])
+        ∷ (l 4, mach elem ∷ []) ∷ (l 5, mach r ∷ []) ∷ (l 6, vint w64 (i * 272) ∷ [])
+        ∷ (l 7, vbool (leb (length ys) i) ∷ []) ∷ (l 8, vptr b (place 272 o i) ∷ [])
+        ∷ (l 9, mach elem ∷ []) ∷ (l 10, vptr b (place 272 o i) ∷ []) ∷ [])
+        (use1 W (‵ (fres γ (codedHoleys R .code (heres R (set ys i r)))))
+        (W .names .obs-res γ (codedHoleys R .code (heres R (set ys i r)))) $
         use1 W (‵ (finally R γ (set ys i r))) (res-finally 𝓤 H A W (named 0) κ R γ (set ys i r)) $
         keep ! (0 ∷ 2 ∷ []) $
         by ! (exits (Done 0 0) (set ys i r) nothing-left (length-set ys i r)
-        (within _ ys i [] below (record { station = r; answer = Done 0 0 }) [] (record { answer-is = refl; station-is = e; room-is = refl })))))))))
+        (within _ ys i [] below (record { station = r; answer = Done 0 0 }) []
+        (record { answer-is = refl; station-is = e; room-is = refl })))))))))
 
     walk : ent 𝓤 (onEntry 𝓤 H A here.signature (κ, tt) (q, tt) x at)
         (WpFn 𝓤 H C Λ code.function (sv ∷ vint w64 i ∷ vint w32 k ∷ []) Post)
@@ -291,12 +300,14 @@ module _ {M : Type 1} (𝓤 : URA M) (H : Heap 𝓤) (A : Atoms 𝓤) (W : Given
         alloc1 ! (λ l₀. alloc1 ! (λ l₁. alloc1 ! (λ l₂. alloc1 ! (λ l₃. alloc1 ! (λ l₄. alloc1 ! (λ l₅.
         alloc1 ! (λ l₆. alloc1 ! (λ l₇. alloc1 ! (λ l₈. alloc1 ! (λ l₉. alloc1 ! (λ l₁₀.
         alloc0 ! $ params1 ! $ pass1 ! (init ! 18 refl (tt, (tt, (record { fits = room .0 }, tt)))) $
-        pass1 ! (init ! 16 refl (tt, record { fits = gi })) $ pass1 ! (init ! 14 refl (tt, record { fits = gk })) $ pass0 ! $
+        pass1 ! (init ! 16 refl (tt, record { fits = gi })) $
+        pass1 ! (init ! 14 refl (tt, record { fits = gk })) $ pass0 ! $
         -- [the stations'; κ; …; _0; …] is sorted: [_0; …; the stations'; κ]
         move ! (23 ∷ []) $ fsplit ! $ move ! (1 ∷ []) $ drop ! $ move ! (23 ∷ []) $ split ! $ move ! (1 ∷ []) $ drop ! $
-        move ! (22 ∷ 23 ∷ 20 ∷ 21 ∷ 18 ∷ 19 ∷ 16 ∷ 17 ∷ 14 ∷ 15 ∷ 12 ∷ 13 ∷ 10 ∷ 11 ∷ 8 ∷ 9 ∷ 6 ∷ 7 ∷ 4 ∷ 5 ∷ 2 ∷ 3 ∷ 1 ∷ []) $
-        assigns ! (of-opd ! (load ! (from ! (fld ! refl (stop !))) (look-in ! 2 (sub ! 1 refl (whole !))))) (from ! (stop !))
-        (init ! 12 refl (tt, record { fits = room .0 })) $
+        move ! (22 ∷ 23 ∷ 20 ∷ 21 ∷ 18 ∷ 19 ∷ 16 ∷ 17 ∷ 14 ∷ 15 ∷ 12 ∷ 13 ∷ 10 ∷ 11 ∷ 8 ∷ 9 ∷ 6 ∷ 7
+        ∷ 4 ∷ 5 ∷ 2 ∷ 3 ∷ 1 ∷ []) $
+        assigns ! (of-opd ! (load ! (from ! (fld ! refl (stop !))) (look-in ! 2 (sub ! 1 refl (whole !)))))
+        (from ! (stop !)) (init ! 12 refl (tt, record { fits = room .0 })) $
         assigns ! (bin ! (load ! (from ! (stop !)) (look ! 12 refl)) (load ! (from ! (stop !)) (look ! 4 refl)) tt)
         (from ! (stop !)) (init ! 14 refl (tt, tt)) $
         first ! $ branches ! (load ! (from ! (stop !)) (look ! 14 refl))
@@ -305,24 +316,28 @@ module _ {M : Type 1} (𝓤 : URA M) (H : Heap 𝓤) (A : Atoms 𝓤) (W : Given
         assigns ! (agg ! (and-then ! (lit ! tt) (and-then ! (lit ! tt) (no-more !)))) (from ! (stop !))
         (init ! 0 refl (answer-typed 𝓤 H A W (Refused 26) (refused 26 (lit< tt)))) $
         returns-within ! Post refl (look ! 0 refl) $
-        frees-laid ! m.locals (tested (λ j. getD (l₀ ∷ l₁ ∷ l₂ ∷ l₃ ∷ l₄ ∷ l₅ ∷ l₆ ∷ l₇ ∷ l₈ ∷ l₉ ∷ l₁₀ ∷ []) j 0) (told (Refused 26) ∷ []))
+        frees-laid ! m.locals
+        (tested (λ j. getD (l₀ ∷ l₁ ∷ l₂ ∷ l₃ ∷ l₄ ∷ l₅ ∷ l₆ ∷ l₇ ∷ l₈ ∷ l₉ ∷ l₁₀ ∷ []) j 0) (told (Refused 26) ∷ []))
         (fsplit ! $ drop ! $ fsplit ! $
-        use1 W (‵ (fres γ (codedHoleys R .code (heres R ys)))) (W .names .obs-res γ (codedHoleys R .code (heres R ys))) $
+        use1 W (‵ (fres γ (codedHoleys R .code (heres R ys))))
+        (W .names .obs-res γ (codedHoleys R .code (heres R ys))) $
         use1 W (‵ (finally R γ ys)) (res-finally 𝓤 H A W (named 0) κ R γ ys) $ keep ! (0 ∷ 2 ∷ []) $
         by ! (exits (Refused 26) ys (refused 26 (lit< tt)) refl (outside _ ys i [] (leb→le (length ys) i h)))))
         -- in range
-        (λ h. skips ! $ by ! (in-range (nleb→lt (length ys) i h) (λ j. getD (l₀ ∷ l₁ ∷ l₂ ∷ l₃ ∷ l₄ ∷ l₅ ∷ l₆ ∷ l₇ ∷ l₈ ∷ l₉ ∷ l₁₀ ∷ []) j 0))))))))))))))
+        (λ h. skips ! $ by ! (in-range (nleb→lt (length ys) i h)
+        (λ j. getD (l₀ ∷ l₁ ∷ l₂ ∷ l₃ ∷ l₄ ∷ l₅ ∷ l₆ ∷ l₇ ∷ l₈ ∷ l₉ ∷ l₁₀ ∷ []) j 0))))))))))))))
 
-module _ {M : Type 1} (𝓤 : URA M) (H : Heap 𝓤) (A : Atoms 𝓤) (W : Given 𝓤 H A) (mem : Memory → SProp 𝓤) (run : Routine → Fun 𝓤)
-    (𝓣 : Tables 𝓤 H) (known : Triple 𝓤 (𝓣 .C #pass) (Passed 𝓤 H A mem run)) where
+module _ {M : Type 1} (𝓤 : URA M) (H : Heap 𝓤) (A : Atoms 𝓤) (W : Given 𝓤 H A) (mem : Memory → SProp 𝓤)
+    (run : Routine → Fun 𝓤) (𝓣 : Tables 𝓤 H) (known : Triple 𝓤 (𝓣 .C #pass) (Passed 𝓤 H A mem run)) where
   walks : Walks 𝓤 H A here.ended stayed (WpFn 𝓤 H (𝓣 .C) (𝓣 .Λ) code.function) (here.clauses 𝓤 H A mem run)
   walks =
       walked 𝓤 H A here.ended stayed (here.clauses 𝓤 H A mem run) (WpFn 𝓤 H (𝓣 .C) (𝓣 .Λ) code.function)
       (λ κs. (slice-vals, (uint-vals w64, (uint-vals w32, tt))))
       (λ κs. (mut-slice-tells (named 0) (κs .0) R, (uint-tells w64, (uint-tells w32, tt))))
       (λ κs qs bounds a g are. via 𝓤 _ (fst∗ 𝓤 _ (emp 𝓤))
-      (walk 𝓤 H A W mem run (κs .0) (qs .0) (a .0 .ptr .0) (a .0 .ptr .1) (a .0 .name) (a .0 .now) (a .1 .0) (a .1 .1 .0)
-      (are .1 .0 .1) (are .1 .1 .0 .1) (are .0 .0 .1) (𝓣 .C) (𝓣 .Λ) (fmOf 𝓤 H (W .laws) 𝓣) known))
+      (walk 𝓤 H A W mem run (κs .0) (qs .0) (a .0 .ptr .0) (a .0 .ptr .1) (a .0 .name) (a .0 .now)
+      (a .1 .0) (a .1 .1 .0) (are .1 .0 .1) (are .1 .1 .0 .1) (are .0 .0 .1) (𝓣 .C) (𝓣 .Λ)
+      (fmOf 𝓤 H (W .laws) 𝓣) known))
 
   meets : Meets 𝓤 H A here.signature (WpFn 𝓤 H (𝓣 .C) (𝓣 .Λ) code.function) (here.spec 𝓤 H A mem run)
   meets =
@@ -333,7 +348,8 @@ module _ {M : Type 1} (𝓤 : URA M) (H : Heap 𝓤) (A : Atoms 𝓤) (W : Given
           (goes-dropped 𝓤 H A W 1 (plain (λ _. u32)) yes (λ κs x f. refl), tt),
         ),
       )
-      (here.clauses 𝓤 H A mem run) (WpFn 𝓤 H (𝓣 .C) (𝓣 .Λ) code.function) (WpFn-mono 𝓤 H (W .laws) 𝓣 code.function) walks
+      (here.clauses 𝓤 H A mem run) (WpFn 𝓤 H (𝓣 .C) (𝓣 .Λ) code.function) (WpFn-mono 𝓤 H (W .laws) 𝓣 code.function)
+      walks
 
 pub pass-spec : {M : Type 1} → stated.statement M
 unfolding code.routine tablesOf
