@@ -57,7 +57,7 @@ shutAt = steppedAt (λ s room. happenedTo s Shutdown room)
 abbrev pub clockedAt : List Station → ℕ → ℕ → List ℕ → ListResult
 clockedAt stations at ticks room = steppedAt (λ s room. clockedBy s ticks room) stations at room
 
--- "5 clock .. each firing as often as due" of one station, which the caller has nothing to hand in for
+-- "5 clock .. each firing as often as due" of one station: nothing is left over
 abbrev pub passedAt : List Station → ℕ → ℕ → List ℕ → ListResult
 passedAt stations at ticks room =
     steppedAt (λ s room. record { answer = Done 0 0; station = passed s ticks; room = room }) stations at room

@@ -17,12 +17,13 @@ pub enum Step {
     Pass(usize, u32),
 }
 
+// What a step leaves: all stations, and its answer.
 pub struct Moved {
     pub stations: [Station; 16],
     pub answer: Answered,
 }
 
-// Takes one step; refuses as the list does.
+// Takes one step; refuses as the list's function for it does.
 fn step_in(all: [Station; 16], step: Step) -> Moved
     ensures { λ r. ⌜ r ≡ movedBy (steppedBy step all freshRoom) ⌝ }
 {
