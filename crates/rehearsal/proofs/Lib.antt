@@ -1,0 +1,5 @@
+mod Stored
+mod Taking
+mod Spelled
+mod Stepping
+pub mod Theorems

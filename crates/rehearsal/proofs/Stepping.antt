@@ -1,0 +1,288 @@
+-- One record of a run, and one after another: what the functions of `run` cite.
+-- Assumes nothing.
+use mathlib.Core.Path.{_≡_, refl, sym, ap, subst, _∙_}
+use mathlib.Core.Bool.{Bool, true, false, cond, not, _||_}
+use mathlib.Core.List.{List, [], _++_, append-assoc, append-nil}
+use Prim.Native.Nat.{ℕ, _+_, _-_, _≤_, _<_}
+use native.Mathlib.Nat.{sub-zero}
+use native.Mathlib.Omega.{arith}
+use lib.Dec.{eqb, ltb, leb}
+use lib.ListN.{length, take, drop, getD, length-append, length-drop, length-take}
+use lib.Seq.{take-all}
+use borrow.Author.Tests.{lt-ltb, le-ltb, eq-eqb, ne-eqb, le-leb, lt-leb, leb-true, leb-false, not-false}
+use borrow.Rule.Slice.PartMut.{midOf, putMid}
+use Rattle.wire.specs.Writing.{over}
+use Rattle.wire.proofs.Tested.{second-fails}
+use Rattle.output.proofs.Parts.{part-behind}
+use Rattle.stations.specs.declared.station.Stepped.{Stepped}
+use Rattle.stations.specs.Making.{stationRefusal, madeOf}
+use Rattle.stations.specs.List.{nowhere}
+use Rattle.rehearsal.specs.declared.segment.Segment.{Segment}
+use Rattle.rehearsal.specs.declared.segment.Taken.{Taken}
+use Rattle.rehearsal.specs.declared.kinds.Kind.{Kind}
+use Rattle.rehearsal.specs.declared.kinds.Kind.the-variants.{
+  Unknown,
+  NewSegment,
+  NewStation,
+  Startup,
+  Shutdown,
+  Clock,
+  Deliver,
+}
+use Rattle.rehearsal.specs.declared.run.Progress.{Progress}
+use Rattle.rehearsal.specs.declared.run.Ran.{Ran}
+use Rattle.rehearsal.specs.Kinds.{kindOf, kindNumber, bodyLength}
+use Rattle.rehearsal.specs.Record.{takenBy}
+use Rattle.rehearsal.specs.Lines.{Printed, lineOf, refusedLine, printedOf}
+use Rattle.rehearsal.specs.Run.{
+  exhausted,
+  Step,
+  ended,
+  ends,
+  recordStep,
+  stepOf,
+  Steps,
+  leftOf,
+  stopsAt,
+  Runs,
+  stops,
+  goes,
+  RunLeaves,
+}
+
+-- the stations that are not there
+pub no-station : (made : Stepped) (address : List ℕ) → made ≡ madeOf 0 0 0 false 0 address → made .station ≡ nowhere
+unfolding madeOf stationRefusal
+no-station made address e = ap (λ (m : Stepped). m .station) e
+
+pub body-short : (kind : Kind) → bodyLength kind ≤ 6
+body-short Unknown = omega arith
+body-short NewSegment = omega arith
+body-short NewStation = omega arith
+body-short Startup = omega arith
+body-short Shutdown = omega arith
+body-short Clock = omega arith
+body-short Deliver = omega arith
+
+-- nothing is printed
+pub prints-nothing : (room : List ℕ) → Printed [] room 0 room
+prints-nothing room = record { written-is = refl; room-is = refl; fits = omega arith }
+
+-- kinds 1 and 2, and 3 to 6
+module _ (kind : Kind) (number : ℕ) (segment : Segment) (n : ℕ) (is-n : n ≡ kindNumber kind) where
+  pub silent-kind : (room : List ℕ) → n < 3 → Printed (printedOf kind number segment) room 0 room
+  silent-kind room h = rw (← is-n, lt-ltb n 3 h) (prints-nothing room)
+
+  pub line-kind : (before after : List ℕ) (written : ℕ) → 3 ≤ n → Printed (lineOf number segment) before written after
+      → Printed (printedOf kind number segment) before written after
+  line-kind before after written h p = rw (← is-n, le-ltb n 3 h) p
+
+-- a promise of one step is one of an equal step
+pub steps-equal : {a b : Step} (before : List ℕ) (ran : Ran) (after : List ℕ) → a ≡ b → Steps a before ran after
+    → Steps b before ran after
+steps-equal before ran after e h = subst (λ (x : Step). Steps x before ran after) e h
+
+-- a record that is refused, or taken
+module _ (p : Progress) (kind : Kind) (body before after : List ℕ) (written : ℕ) (taken : Taken)
+    (is-taken : taken ≡ takenBy (p .segment) kind body) where
+  pub step-refused : (last : Progress) → ¬ (taken .refusal ≡ 0) → last ≡ ended p
+      → Printed (refusedLine (p .number) (taken .refusal)) before written after
+      → Steps (recordStep p kind body) before (record { progress = last; written = written }) after
+  step-refused last n e printed =
+      rw (← is-taken, ne-eqb (taken .refusal) 0 n) (record { progress-is = e; printed = printed })
+
+  pub step-taken : (long : ℕ) → taken .refusal ≡ 0 → long ≡ bodyLength kind
+      → Printed (printedOf kind (p .number) (taken .segment)) before written after
+      → Steps (recordStep p kind body) before
+      (record {
+        progress =
+            record { segment = taken .segment; at = p .at + 1 + long; number = p .number + 1; done = false };
+        written = written;
+      }) after
+  step-taken long z e printed =
+      rw (← is-taken, eq-eqb (taken .refusal) 0 z, e) (record { progress-is = refl; printed = printed })
+
+-- the next record, or the end
+module _ (script : List ℕ) (p : Progress) where
+  pub step-long : (before after : List ℕ) (written : ℕ) (last : Progress) → 65536 < length script → last ≡ ended p
+      → Printed (refusedLine 0 30) before written after
+      → Steps (stepOf script p) before (record { progress = last; written = written }) after
+  unfolding stepOf
+  step-long before after written last h e printed =
+      rw (lt-ltb 65536 (length script) h) (record { progress-is = e; printed = printed })
+
+  module _ (fits : length script ≤ 65536) where
+    step-ends : (room : List ℕ) (last : Progress) → exhausted script p ≡ true → last ≡ ended p
+        → Steps (stepOf script p) room (record { progress = last; written = 0 }) room
+    unfolding stepOf
+    step-ends room last t e =
+        rw (le-ltb 65536 (length script) fits, t) (record { progress-is = e; printed = prints-nothing room })
+
+    pub step-none : (room : List ℕ) (last : Progress) → length script ≤ p .at → last ≡ ended p
+        → Steps (stepOf script p) room (record { progress = last; written = 0 }) room
+    step-none room last h e = step-ends room last (rw (le-leb (length script) (p .at) h)) e
+
+    module _ (more : p .at < length script) where
+      pub step-misplaced : (room : List ℕ) (last : Progress) → p .at + 1 < p .number → last ≡ ended p
+          → Steps (stepOf script p) room (record { progress = last; written = 0 }) room
+      step-misplaced room last h e =
+          step-ends room last (rw (lt-leb (length script) (p .at) more, lt-ltb (p .at + 1) (p .number) h)) e
+
+      pub step-goes : (kind : Kind) → kind ≡ kindOf (getD script (p .at) 0) → p .number ≤ p .at + 1
+          → recordStep p kind (take (length script - (p .at + 1)) (drop (p .at + 1) script)) ≡ stepOf script p
+      unfolding stepOf
+      step-goes kind e h =
+          rw (
+            e,
+            take-all (length script - (p .at + 1)) (drop (p .at + 1) script)
+                (omega (arith, length-drop (p .at + 1) script)),
+            le-ltb 65536 (length script) fits,
+            lt-leb (length script) (p .at) more,
+            le-ltb (p .at + 1) (p .number) h,
+          )
+
+-- what is left to do falls
+taken-falls : (t : Bool) (script : List ℕ) (p : Progress) (kind : Kind) (body : List ℕ) → p .done ≡ false
+    → p .at < length script → eqb (takenBy (p .segment) kind body .refusal) 0 ≡ t
+    → leftOf script (recordStep p kind body .progress) < leftOf script p
+taken-falls true script p kind body d h e = rw (e, d) (omega arith)
+taken-falls false script p kind body d h e = rw (e, d) (omega arith)
+
+misplaced-falls : (t : Bool) (script : List ℕ) (p : Progress) → p .done ≡ false → p .at < length script
+    → leftOf script
+    (cond t (ends p []) (recordStep p (kindOf (getD script (p .at) 0)) (drop (p .at + 1) script)) .progress)
+    < leftOf script p
+misplaced-falls true script p d h = rw d (omega arith)
+misplaced-falls false script p d h = taken-falls _ script p _ _ d h refl
+
+exhausted-falls : (t : Bool) (script : List ℕ) (p : Progress) → p .done ≡ false → leb (length script) (p .at) ≡ t
+    → leftOf script
+    (cond (t || ltb (p .at + 1) (p .number)) (ends p [])
+    (recordStep p (kindOf (getD script (p .at) 0)) (drop (p .at + 1) script)) .progress) < leftOf script p
+exhausted-falls true script p d e = rw d (omega arith)
+exhausted-falls false script p d e =
+    misplaced-falls (ltb (p .at + 1) (p .number)) script p d (leb-false (length script) (p .at) e)
+
+long-falls : (t : Bool) (script : List ℕ) (p : Progress) → p .done ≡ false
+    → leftOf script
+    (cond t (ends p (refusedLine 0 30))
+    (cond (exhausted script p) (ends p [])
+    (recordStep p (kindOf (getD script (p .at) 0)) (drop (p .at + 1) script))) .progress) < leftOf script p
+long-falls true script p d = rw d (omega arith)
+long-falls false script p d = exhausted-falls (leb (length script) (p .at)) script p d refl
+
+pub left-falls : (script : List ℕ) (p : Progress) → p .done ≡ false
+    → leftOf script (stepOf script p .progress) < leftOf script p
+unfolding stepOf
+left-falls script p d = long-falls (ltb 65536 (length script)) script p d
+
+undone : (t : Bool) → not t ≡ true → t ≡ false
+undone true e = sym e
+undone false e = refl
+
+pub left-less : (script : List ℕ) (p next : Progress) → not (p .done) ≡ true → next ≡ stepOf script p .progress
+    → leftOf script next < leftOf script p
+left-less script p next d e = rw e (left-falls script p (undone (p .done) d))
+
+-- whether a run stops, by the code's tests
+
+pub goes-on : (p : Progress) (room : ℕ) → not (p .done) ≡ true → leb 32 room ≡ true → stopsAt p room ≡ false
+goes-on p room d t = rw (undone (p .done) d, le-ltb room 32 (leb-true 32 room t))
+
+pub stops-short : (p : Progress) (room : ℕ) → leb 32 room ≡ false → stopsAt p room ≡ true
+stops-short p room t = second-fails (p .done) (ltb room 32) (lt-ltb room 32 (leb-false 32 room t))
+
+pub stops-done : (p : Progress) (room : ℕ) → not (p .done) ≡ false → stopsAt p room ≡ true
+stops-done p room d = rw (not-false (p .done) d)
+
+-- a run so far: its text stands at the start of the room, and what follows from here follows from its start
+pub record SoFar (script : List ℕ) (p : Progress) (before : List ℕ) (here : Progress) (written : ℕ) (after : List ℕ)
+    : Type 0 where
+  pub text : List ℕ
+  pub follows : (rest : List ℕ) (q : Progress) → Runs script here (length before - written) rest q
+      → Runs script p (length before) (text ++ rest) q
+  pub printed : Printed text before written after
+
+-- a run is one of an equal room and from an equal progress
+runs-equal : {script text : List ℕ} {p here q : Progress} {m n : ℕ} → p ≡ here → m ≡ n → Runs script p m text q
+    → Runs script here n text q
+runs-equal {script} {text} {p} {here} {q} {m} {n} e f r =
+    subst (λ (x : Progress). Runs script x n text q) e (subst (λ (k : ℕ). Runs script p k text q) f r)
+
+pub over-long : (text before : List ℕ) → length text ≤ length before → length (over text before) ≡ length before
+over-long text before fits =
+    omega (arith, length-append text (drop (length text) before), length-drop (length text) before)
+
+pub mid-whole : (at : ℕ) (room : List ℕ) → at ≤ length room
+    → length room - at ≤ length (midOf at (length room - at) room)
+mid-whole at room h = omega (arith, length-take (length room - at) (drop at room), length-drop at room)
+
+pub mid-long : (at : ℕ) (room : List ℕ) → length (midOf at (length room - at) room) ≤ length room - at
+mid-long at room = omega (arith, length-take (length room - at) (drop at room))
+
+pub begun : (script : List ℕ) (p : Progress) (room : List ℕ) → SoFar script p room p 0 room
+begun script p room =
+    record {
+      text = [];
+      follows = λ rest q r. runs-equal refl (sub-zero (length room)) r;
+      printed = prints-nothing room;
+    }
+
+module _ {script : List ℕ} {p : Progress} {before : List ℕ} {here : Progress} {written : ℕ} {after : List ℕ}
+    (so-far : SoFar script p before here written after) where
+  -- the room has as many bytes as it had
+  pub room-long : length after ≡ length before
+  room-long =
+      ap length (so-far .printed .room-is) ∙ over-long (so-far .text) before (so-far .printed .fits)
+
+  pub written-fits : written ≤ length after
+  written-fits = omega (arith, room-long, so-far .printed .written-is, so-far .printed .fits)
+
+  pub more-fits : (step : Step) (ran : Ran) (part : List ℕ)
+      → Steps step (midOf written (length after - written) after) ran part
+      → written + ran .written ≤ length before
+  more-fits step ran part steps =
+      let second = steps .printed in
+      omega (arith, room-long, written-fits, second .written-is, second .fits, mid-long written after)
+
+  -- a record more
+  pub turn : (ran : Ran) (part : List ℕ) → stopsAt here (length after - written) ≡ false
+      → Steps (stepOf script here) (midOf written (length after - written) after) ran part
+      → SoFar script p before (ran .progress) (written + ran .written)
+      (putMid written (length after - written) after part)
+  turn ran part n steps =
+      let line = stepOf script here .line in
+      let text = so-far .text in
+      let first = so-far .printed in
+      let second = steps .printed in
+      let long = length-append text line in
+      let fits : length line ≤ length after - written = omega (arith, second .fits, mid-long written after) in
+      let left : length before - (written + ran .written) ≡ length before - written - length line =
+      omega (arith, second .written-is) in
+      record {
+        text = text ++ line;
+        follows = λ rest q r.
+            rw append-assoc
+            (so-far .follows (line ++ rest) q
+            (goes (rw room-long at n) (runs-equal (steps .progress-is) left r)));
+        printed =
+            record {
+              written-is = omega (arith, first .written-is, second .written-is);
+              room-is =
+                  part-behind text line before after part written (first .room-is) (first .written-is)
+                  (second .room-is);
+              fits = omega (arith, room-long, first .written-is);
+            };
+      }
+
+  -- the end
+  pub stopped : stopsAt here (length after - written) ≡ true
+      → RunLeaves script p before (record { progress = here; written = written }) after
+  stopped t =
+      record {
+        text = so-far .text;
+        runs =
+            subst (λ (l : List ℕ). Runs script p (length before) l here) (append-nil (so-far .text))
+            (so-far .follows [] here (stops (rw room-long at t)));
+        printed = so-far .printed;
+      }

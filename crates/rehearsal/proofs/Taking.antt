@@ -1,0 +1,196 @@
+-- What a record of each kind comes to: what the functions of `records` cite.
+-- Assumes nothing.
+use mathlib.Core.Path.{_≡_, refl, sym, ap, _∙_}
+use mathlib.Core.Bool.{Bool, cond, not}
+use mathlib.Core.List.{List, [], _∷_}
+use Prim.Native.Nat.{ℕ, zero, suc, _+_, _≤_, _<_}
+use native.Mathlib.Numerals.{add-one}
+use native.Mathlib.Omega.{arith}
+use lib.Dec.{eqb}
+use lib.ListN.{length, getD, set, List·getD-eq-default, drop-of-length-le}
+use lib.Seq.{take-all}
+use borrow.Author.Tests.{lt-ltb, le-ltb, eq-eqb, ne-eqb, ltb-false}
+use Rattle.sums.specs.Total.{numberOf}
+use Rattle.wire.specs.Check.{firstRefusal}
+use Rattle.wire.proofs.Checks.{refusal-after, refusal-before, passed as passed-checks}
+use Rattle.stations.specs.declared.station.Station.{Station}
+use Rattle.stations.specs.declared.station.Stepped.{Stepped}
+use Rattle.stations.specs.Making.{madeOf}
+use Rattle.stations.specs.List.{nowhere, steppedAt, passedAt}
+use Rattle.rehearsal.specs.declared.segment.Segment.{Segment}
+use Rattle.rehearsal.specs.declared.segment.Taken.{Taken}
+use Rattle.rehearsal.specs.declared.kinds.Kind.{Kind}
+use Rattle.rehearsal.specs.declared.kinds.Kind.the-variants.{
+  Unknown,
+  NewSegment,
+  NewStation,
+  Startup,
+  Shutdown,
+  Clock,
+  Deliver,
+}
+use Rattle.stations.specs.Passing.{passed}
+use Rattle.rehearsal.specs.Clock.{allPassed}
+use Rattle.rehearsal.specs.Kinds.{kindOf, kindNumber, bodyLength}
+use Rattle.rehearsal.specs.Checks.{recordChecks, stationChecks, numberChecks, deliverChecks, kindChecks}
+use Rattle.rehearsal.specs.Record.{withStations, withStation, afterRecord, checked, takenBy}
+use Rattle.rehearsal.proofs.Stored.{read-within}
+
+-- a byte that is no kind
+pub unknown-kind : (byte : ℕ) → ¬ (byte ≡ 1) → ¬ (byte ≡ 2) → ¬ (byte ≡ 3) → ¬ (byte ≡ 4) → ¬ (byte ≡ 5)
+    → ¬ (byte ≡ 6) → Unknown ≡ kindOf byte
+unfolding kindOf
+unknown-kind zero a b c d e f = refl
+unknown-kind (suc byte) a b c d e f =
+    let past : 7 ≤ suc byte = omega arith in
+    sym (List·getD-eq-default
+    (Unknown ∷ (NewSegment ∷ (NewStation ∷ (Startup ∷ (Shutdown ∷ (Clock ∷ (Deliver ∷ []))))))) Unknown past)
+
+-- 23 to 25
+module _ (begun : Bool) (kind : Kind) (left number long : ℕ) (is-number : number ≡ kindNumber kind)
+    (known : ¬ (number ≡ 0)) (is-long : long ≡ bodyLength kind) where
+  pub refusal-cut : left < long → 24 ≡ firstRefusal (recordChecks begun kind left)
+  refusal-cut h = rw (← is-number, ne-eqb number 0 known, ← is-long, lt-ltb left long h)
+
+  -- 25, or none, by the test that 25 goes by
+  pub refusal-last : (t : Bool) → long ≤ left → cond begun (eqb number 1) (not (eqb number 1)) ≡ t
+      → cond t 25 0 ≡ firstRefusal (recordChecks begun kind left)
+  refusal-last t h e =
+      rw (← is-number, ne-eqb number 0 known, ← is-long, le-ltb left long h) (ap (λ (x : Bool). cond x 25 0) (sym e))
+
+-- a station record that is taken
+module _ (segment : Segment) (body : List ℕ) where
+  pub station-taken : (primary : ℕ) (made : Stepped) (after : Segment) → segment .used < 16 → ¬ (getD body 0 0 ≡ 0)
+      → getD body 1 0 ≤ 1 → primary ≡ numberOf (getD body 2 0) (getD body 3 0) (getD body 4 0) (getD body 5 0)
+      → made ≡ madeOf (segment .vrid) (getD body 0 0) (segment .interval) (eqb (getD body 1 0) 1) primary
+      (segment .address)
+      → after ≡ withStations segment (set (segment .stations) (segment .used) (made .station))
+      → _≡_ {A = Taken} (record {
+        segment =
+            record {
+              stations = after .stations;
+              used = segment .used + 1;
+              vrid = after .vrid;
+              interval = after .interval;
+              address = after .address;
+              begun = after .begun;
+            };
+        refusal = 0;
+      }) (checked segment (stationChecks segment body) (withStation segment body))
+  station-taken primary made after room some most p m e =
+      rw (e, m, p, lt-ltb (segment .used) 16 room, ne-eqb (getD body 0 0) 0 some, le-ltb 1 (getD body 1 0) most)
+
+  -- startup or shutdown
+  pub number-refused : (after : Segment) → segment .used ≤ getD body 0 0
+      → _≡_ {A = Taken} (record { segment = segment; refusal = 26 })
+      (checked segment (numberChecks segment body) after)
+  number-refused after h = rw (le-ltb (getD body 0 0) (segment .used) h)
+
+  pub number-taken : (stations : List Station) (before after : Segment) → getD body 0 0 < segment .used
+      → after ≡ before → before ≡ withStations segment stations
+      → _≡_ {A = Taken} (record { segment = after; refusal = 0 })
+      (checked segment (numberChecks segment body) (withStations segment stations))
+  number-taken stations before after h e f = rw (lt-ltb (getD body 0 0) (segment .used) h, e, f)
+
+-- a delivery, once the two stations are there and are two
+module _ (segment : Segment) (body : List ℕ) (after : Segment) (sent : ℕ)
+    (from-used : getD body 0 0 < segment .used) (to-used : getD body 1 0 < segment .used)
+    (two : ¬ (getD body 0 0 ≡ getD body 1 0))
+    (is-sent : sent ≡ getD (segment .stations) (getD body 0 0) nowhere .sent) where
+  pub deliver-unsent : sent ≡ 0
+      → _≡_ {A = Taken} (record { segment = segment; refusal = 28 })
+      (checked segment (deliverChecks segment body) after)
+  deliver-unsent z =
+      rw (
+        lt-ltb (getD body 0 0) (segment .used) from-used,
+        lt-ltb (getD body 1 0) (segment .used) to-used,
+        ne-eqb (getD body 0 0) (getD body 1 0) two,
+        ← is-sent,
+        eq-eqb sent 0 z,
+      )
+
+  pub deliver-taken : (stored : Segment) → ¬ (sent ≡ 0) → stored ≡ after
+      → _≡_ {A = Taken} (record { segment = stored; refusal = 0 })
+      (checked segment (deliverChecks segment body) after)
+  deliver-taken stored some e =
+      rw (
+        lt-ltb (getD body 0 0) (segment .used) from-used,
+        lt-ltb (getD body 1 0) (segment .used) to-used,
+        ne-eqb (getD body 0 0) (getD body 1 0) two,
+        ← is-sent,
+        ne-eqb sent 0 some,
+        e,
+      )
+
+-- what is promised of a kind that is known
+pub of-kind : (segment : Segment) (body : List ℕ) (kind known : Kind) (r : Taken) → kind ≡ known
+    → r ≡ checked segment (kindChecks known segment body) (afterRecord known segment body)
+    → r ≡ checked segment (kindChecks kind segment body) (afterRecord kind segment body)
+of-kind segment body kind known r e h = rw e h
+
+pub body-fits : (kind known : Kind) (long : ℕ) → kind ≡ known → bodyLength kind ≤ long → bodyLength known ≤ long
+body-fits kind known long e h = rw e at h
+
+-- time passes for one station after another
+pub pass-next : (ticks at : ℕ) (l : List Station) → at < length l
+    → set (allPassed ticks at l) at (passed (getD (allPassed ticks at l) at nowhere) ticks) ≡ allPassed ticks (suc at) l
+unfolding allPassed
+pass-next ticks at [] h = absurd (omega arith)
+pass-next ticks zero (s ∷ l) h = refl
+pass-next ticks (suc at) (s ∷ l) h = ap (λ (r : List Station). passed s ticks ∷ r) (pass-next ticks at l (omega arith))
+
+passed-length : (ticks at : ℕ) (l : List Station) → length (allPassed ticks at l) ≡ length l
+unfolding allPassed
+passed-length ticks zero l = refl
+passed-length ticks (suc at) [] = refl
+passed-length ticks (suc at) (s ∷ l) = ap suc (passed-length ticks at l)
+
+pub pass-turn : (ticks at : ℕ) (l now next : List Station) → length l ≡ 16 → at < 16 → now ≡ allPassed ticks at l
+    → next ≡ passedAt now at ticks [] .stations → next ≡ allPassed ticks (at + 1) l
+unfolding steppedAt
+pass-turn ticks at l now next long h e f =
+    let within : at < length (allPassed ticks at l) = omega (arith, passed-length ticks at l) in
+    f ∙ rw (e, lt-ltb at (length (allPassed ticks at l)) within, add-one at) (pass-next ticks at l (omega arith))
+
+pub pass-none : (ticks : ℕ) (l : List Station) → l ≡ allPassed ticks 0 l
+unfolding allPassed
+pass-none ticks l = refl
+
+pub pass-end : (ticks at used : ℕ) (l : List Station) → length l ≡ 16 → 16 ≤ at → at ≤ used
+    → allPassed ticks at l ≡ allPassed ticks used l
+unfolding allPassed
+pass-end ticks at used l long h k =
+    let whole : length l ≤ at = omega arith in
+    let more : length l ≤ used = omega arith in
+    rw (take-all at l whole, take-all used l more, drop-of-length-le l whole, drop-of-length-le l more)
+
+-- what a station has sent
+pub sent-past : (l : List Station) (at : ℕ) → length l ≡ 16 → 16 ≤ at → 0 ≡ getD l at nowhere .sent
+sent-past l at long h = sym (ap (λ (s : Station). s .sent) (List·getD-eq-default l nowhere (omega arith)))
+
+pub sent-within : (l : List Station) (at : ℕ) (d : Station) → length l ≡ 16 → at < 16
+    → getD l at d .sent ≡ getD l at nowhere .sent
+sent-within l at d long h = ap (λ (s : Station). s .sent) (read-within l at d nowhere (omega arith))
+
+-- the checks of a kind come after those of every record
+pub record-refused : (segment : Segment) (kind : Kind) (body : List ℕ) (r : ℕ)
+    → r ≡ firstRefusal (recordChecks (segment .begun) kind (length body)) → ¬ (r ≡ 0)
+    → _≡_ {A = Taken} (record { segment = segment; refusal = r }) (takenBy segment kind body)
+unfolding takenBy
+record-refused segment kind body r e n =
+    let checks = recordChecks (segment .begun) kind (length body) in
+    let first = refusal-before checks (kindChecks kind segment body) (λ z. n (e ∙ z)) in
+    rw (first, ← e, ne-eqb r 0 n)
+
+pub record-whole : (begun : Bool) (kind : Kind) (left : ℕ) → firstRefusal (recordChecks begun kind left) ≡ 0
+    → bodyLength kind ≤ left
+record-whole begun kind left e =
+    ltb-false left (bodyLength kind) (passed-checks (recordChecks begun kind left) (omega arith) e .1 .0)
+
+pub record-goes : (segment : Segment) (kind : Kind) (body : List ℕ)
+    → firstRefusal (recordChecks (segment .begun) kind (length body)) ≡ 0
+    → checked segment (kindChecks kind segment body) (afterRecord kind segment body) ≡ takenBy segment kind body
+unfolding takenBy
+record-goes segment kind body e =
+    let checks = recordChecks (segment .begun) kind (length body) in
+    rw (refusal-after checks (kindChecks kind segment body) (omega arith) e)

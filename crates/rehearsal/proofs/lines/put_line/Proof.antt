@@ -1,0 +1,38 @@
+-- `rehearsal::lines::put_line` meets its contract.
+-- Assumes nothing.
+use lib.ListN.{length-map}
+use Rattle.text.proofs.Appending.{then}
+use Rattle.rehearsal.specs.Lines.{lineOf}
+use Rattle.rehearsal.proofs.Spelled.{prints, line-short}
+use borrow.Author.Needs.{needs}
+use Rattle.rehearsal.proofs.lines.put_line.Statement.{statement}
+use Rattle.rehearsal.proofs.lines.put_line.Tie as tie
+
+put-decimal-requires : tie.Need-put-decimal-requires
+put-decimal-requires c κs = search needs
+
+put-letters-requires : tie.Need-put-letters-requires
+put-letters-requires c κs = search needs
+
+put-byte-requires : tie.Need-put-byte-requires
+put-byte-requires c κs = search needs
+
+same-length : tie.Need-same-length
+same-length c = search needs
+
+returns : tie.Need-returns
+unfolding lineOf
+returns c =
+    let last = c .before .before in
+    let letters = last .before .before .before .before in
+    let first = letters .before .before .before .before in
+    let start = first .before .before .before .before in
+    prints (then (then (first .put-decimal .ensures) (letters .put-letters .ensures)) (last .put-byte .ensures))
+    (line-short (start .args .number) (start .args .segment) (start .fits .number .fits)
+    (simp length-map at (start .good .1 .1 .0 .1 .1 .0 .1 .0 .1)))
+    (start .pre)
+
+pub put-line-spec : {M : Type 1} → statement M
+put-line-spec =
+    tie.close
+    (tie.spec put-decimal-requires put-letters-requires put-byte-requires same-length returns)

@@ -1,0 +1,53 @@
+-- `rehearsal::records::clock_record` meets its contract.
+-- Assumes nothing.
+use mathlib.Core.Path.{ap, _∙_}
+use native.Mathlib.Omega.{arith}
+use Rattle.rehearsal.specs.declared.segment.Segment.{Segment}
+use Rattle.rehearsal.specs.Record.{withStations}
+use borrow.Author.Needs.{needs}
+use Rattle.rehearsal.proofs.records.clock_record.Statement.{statement}
+use Rattle.rehearsal.proofs.records.clock_record.Tie as tie
+
+shared-slice-read-ticks : tie.Need-shared-slice-read-ticks
+shared-slice-read-ticks c = search needs
+
+cast-ticks : tie.Need-cast-ticks
+cast-ticks c = omega (arith, c .shared-slice-known2 .given 0)
+
+mul-ticks : tie.Need-mul-ticks
+mul-ticks c = omega (arith, c .shared-slice-known2 .given 0)
+
+shared-slice-read-ticks-2 : tie.Need-shared-slice-read-ticks-2
+shared-slice-read-ticks-2 c = search needs
+
+cast-ticks-2 : tie.Need-cast-ticks-2
+cast-ticks-2 c = omega (arith, c .shared-slice-known3 .given 1)
+
+add-ticks : tie.Need-add-ticks
+add-ticks c = omega (arith, c .shared-slice-known3 .given 0, c .shared-slice-known3 .given 1)
+
+pass-all-requires : tie.Need-pass-all-requires
+pass-all-requires c κs = search needs
+
+with-stations-requires : tie.Need-with-stations-requires
+with-stations-requires c κs = search needs
+
+returns : tie.Need-returns
+returns c =
+    let a = c .before .before .before .before .before .before .args in
+    ap (λ (s : Segment). record { segment = s; refusal = 0 })
+    (c .with-stations .ensures ∙ ap (withStations (a .segment)) (c .before .pass-all .ensures))
+
+pub clock-record-spec : {M : Type 1} → statement M
+clock-record-spec =
+    tie.close
+    (tie.spec
+    shared-slice-read-ticks
+    cast-ticks
+    mul-ticks
+    shared-slice-read-ticks-2
+    cast-ticks-2
+    add-ticks
+    pass-all-requires
+    with-stations-requires
+    returns)

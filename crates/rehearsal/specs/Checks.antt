@@ -1,0 +1,58 @@
+-- What refuses a record, in order (01, 'The rehearsal program').
+use Prim.Native.Nat.{ℕ}
+use mathlib.Core.List.{List, [], _∷_}
+use mathlib.Core.Bool.{Bool, cond, not}
+use lib.Dec.{eqb, ltb}
+use lib.ListN.{getD}
+use Rattle.wire.specs.Check.{Check}
+use Rattle.stations.specs.List.{nowhere}
+use Rattle.rehearsal.specs.declared.segment.Segment.{Segment}
+use Rattle.rehearsal.specs.declared.kinds.Kind.{Kind}
+use Rattle.rehearsal.specs.declared.kinds.Kind.the-variants.{
+  Unknown,
+  NewSegment,
+  NewStation,
+  Startup,
+  Shutdown,
+  Clock,
+  Deliver,
+}
+use Rattle.rehearsal.specs.Kinds.{bodyLength, kindNumber}
+
+-- "23 unknown kind; 24 body cut off; 25 first record not a segment, or a second segment"
+abbrev pub recordChecks : Bool → Kind → ℕ → List Check
+recordChecks begun kind left =
+    (23, eqb (kindNumber kind) 0)
+    ∷ ((24, ltb left (bodyLength kind))
+    ∷ ((25, cond begun (eqb (kindNumber kind) 1) (not (eqb (kindNumber kind) 1))) ∷ []))
+
+-- "for segment 14, 16": VRID 0, interval 0
+abbrev pub segmentChecks : List ℕ → List Check
+segmentChecks body = (14, eqb (getD body 0 0) 0) ∷ ((16, eqb (getD body 1 0) 0) ∷ [])
+
+-- "for station 27, 15, 29": a seventeenth station, priority 0, preempt above 1
+abbrev pub stationChecks : Segment → List ℕ → List Check
+stationChecks segment body =
+    (27, not (ltb (segment .used) 16)) ∷ ((15, eqb (getD body 0 0) 0) ∷ ((29, ltb 1 (getD body 1 0)) ∷ []))
+
+-- "26 unused station number"
+abbrev pub numberChecks : Segment → List ℕ → List Check
+numberChecks segment body = (26, not (ltb (getD body 0 0) (segment .used))) ∷ []
+
+-- "for deliver 26, 28": "28 from equals to, or from has sent nothing"
+abbrev pub deliverChecks : Segment → List ℕ → List Check
+deliverChecks segment body =
+    (26, not (ltb (getD body 0 0) (segment .used)))
+    ∷ ((26, not (ltb (getD body 1 0) (segment .used)))
+    ∷ ((28, eqb (getD body 0 0) (getD body 1 0))
+    ∷ ((28, eqb (getD (segment .stations) (getD body 0 0) nowhere .sent) 0) ∷ [])))
+
+-- after those of every record
+abbrev pub kindChecks : Kind → Segment → List ℕ → List Check
+kindChecks Unknown segment body = []
+kindChecks NewSegment segment body = segmentChecks body
+kindChecks NewStation segment body = stationChecks segment body
+kindChecks Startup segment body = numberChecks segment body
+kindChecks Shutdown segment body = numberChecks segment body
+kindChecks Clock segment body = []
+kindChecks Deliver segment body = deliverChecks segment body

@@ -1,0 +1,8 @@
+pub mod Clock
+pub mod Kinds
+pub mod Checks
+pub mod Record
+pub mod Lines
+pub mod Script
+pub mod Run
+pub mod Theorems

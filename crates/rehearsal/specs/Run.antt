@@ -1,0 +1,89 @@
+-- A script that is run in pieces, as much at a time as there is room for (01, 'The rehearsal program').
+use Prim.Native.Nat.{ℕ, suc, _+_, _-_}
+use mathlib.Core.Path.{_≡_}
+use mathlib.Core.List.{List, [], _++_}
+use mathlib.Core.Bool.{Bool, true, false, cond, _||_}
+use lib.Dec.{eqb, ltb, leb}
+use lib.ListN.{length, drop, getD}
+use Rattle.rehearsal.specs.declared.kinds.Kind.{Kind}
+use Rattle.rehearsal.specs.declared.run.Progress.{Progress}
+use Rattle.rehearsal.specs.declared.run.Ran.{Ran}
+use Rattle.rehearsal.specs.Kinds.{kindOf, bodyLength}
+use Rattle.rehearsal.specs.Record.{takenBy}
+use Rattle.rehearsal.specs.Lines.{Printed, refusedLine, printedOf}
+use Rattle.rehearsal.specs.Script.{emptySegment, linesFrom}
+
+-- before the first record
+abbrev pub started : Progress
+started = record { segment = emptySegment; at = 0; number = 1; done = false }
+
+-- no record of the script is left; each that was read has a byte at least, so no run comes to a number above that
+abbrev pub exhausted : List ℕ → Progress → Bool
+exhausted script p = leb (length script) (p .at) || ltb (p .at + 1) (p .number)
+
+-- the output that is still due
+unfoldable pub dueOf : List ℕ → Progress → List ℕ
+dueOf script p =
+    cond (p .done) []
+    (cond (ltb 65536 (length script)) (refusedLine 0 30)
+    (cond (exhausted script p) [] (linesFrom (p .segment) (p .number) (drop (p .at) script) 0)))
+
+-- what one record leaves, and its line
+pub record Step : Type 0 where
+  pub progress : Progress
+  pub line : List ℕ
+
+abbrev pub ended : Progress → Progress
+ended p = record { segment = p .segment; at = p .at; number = p .number; done = true }
+
+abbrev pub ends : Progress → List ℕ → Step
+ends p line = record { progress = ended p; line = line }
+
+-- the record of this kind, whose body begins these bytes
+abbrev pub recordStep : Progress → Kind → List ℕ → Step
+recordStep p kind body =
+    cond (eqb (takenBy (p .segment) kind body .refusal) 0)
+    (record {
+      progress =
+          record {
+            segment = takenBy (p .segment) kind body .segment;
+            at = p .at + 1 + bodyLength kind;
+            number = p .number + 1;
+            done = false;
+          };
+      line = printedOf kind (p .number) (takenBy (p .segment) kind body .segment);
+    })
+    (ends p (refusedLine (p .number) (takenBy (p .segment) kind body .refusal)))
+
+-- the next record, or the end
+unfoldable pub stepOf : List ℕ → Progress → Step
+stepOf script p =
+    cond (ltb 65536 (length script)) (ends p (refusedLine 0 30))
+    (cond (exhausted script p) (ends p [])
+    (recordStep p (kindOf (getD script (p .at) 0)) (drop (p .at + 1) script)))
+
+-- the promise of one record: where it leaves the script, and the whole room
+pub record Steps (step : Step) (before : List ℕ) (ran : Ran) (after : List ℕ) : Type 0 where
+  pub progress-is : ran .progress ≡ step .progress
+  pub printed : Printed (step .line) before (ran .written) after
+
+-- what is left to do: a byte at least for each record, and one more for the end
+abbrev pub leftOf : List ℕ → Progress → ℕ
+leftOf script p = cond (p .done) 0 (suc (length script - p .at))
+
+-- a run stops where all is done, or a line of 32 bytes might not fit
+abbrev pub stopsAt : Progress → ℕ → Bool
+stopsAt p room = p .done || ltb room 32
+
+-- the text of a run with so much room, and where it leaves the script
+pub data Runs (script : List ℕ) : Progress → ℕ → List ℕ → Progress → Type 0 where
+  stops : {p : Progress} {room : ℕ} → stopsAt p room ≡ true → Runs script p room [] p
+  goes : {p q : Progress} {room : ℕ} {text : List ℕ} → stopsAt p room ≡ false
+      → Runs script (stepOf script p .progress) (room - length (stepOf script p .line)) text q
+      → Runs script p room (stepOf script p .line ++ text) q
+
+-- the promise of a run: its text stands at the start of the room, and every byte past it is as it was
+pub record RunLeaves (script : List ℕ) (p : Progress) (before : List ℕ) (ran : Ran) (after : List ℕ) : Type 0 where
+  pub text : List ℕ
+  pub runs : Runs script p (length before) text (ran .progress)
+  pub printed : Printed text before (ran .written) after

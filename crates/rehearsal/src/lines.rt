@@ -1,0 +1,74 @@
+// The lines that the rehearsal prints.
+use crate::kinds::Kind;
+use crate::kinds::kind_number;
+use crate::segment::Segment;
+use router::record::State;
+use stations::station::Station;
+use text::put;
+use text::put_byte;
+use text::put_decimal;
+ghost use mathlib.Core.Path.{_≡_};
+ghost use mathlib.Core.List.{_∷_};
+ghost use Prim.Native.Nat.{_≤_};
+ghost use lib.ListN.{length};
+ghost use Rattle.text.specs.Appended.{Appended};
+ghost use Rattle.rehearsal.specs.Lines.{Printed, letterOf, lettersOf, lineOf, printedOf, refusedLine};
+
+fn letter_of(state: State) -> u8
+    ensures { λ r. ⌜ r ≡ letterOf state ⌝ }
+{
+    match state {
+        State::Initialize => b'I',
+        State::Backup => b'B',
+        State::Master => b'M',
+    }
+}
+
+// Puts a space and a letter for each station that is used, as much as fits.
+fn put_letters(out: &mut [u8], at: usize, stations: [Station; 16], used: usize) -> usize
+    ensures { λ r. ⌜ Appended (now (out .entry)) at (32 ∷ lettersOf used stations) (now (out .exit)) r ⌝ }
+{
+    let mut next = put_byte(out, at, b' ');
+    let mut k = 0;
+    while k < used && k < 16 {
+        let s = stations[k];
+        let own = s.router;
+        let state = own.state;
+        next = put_byte(out, next, letter_of(state));
+        k += 1;
+    }
+    next
+}
+
+// Puts the line of a record that was taken.
+fn put_line(out: &mut [u8], number: u32, segment: Segment) -> usize
+    requires { ⌜ 32 ≤ length (now out) ⌝ }
+    ensures { λ r. ⌜ Printed (lineOf number segment) (now (out .entry)) r (now (out .exit)) ⌝ }
+{
+    let stations = segment.stations;
+    let mut next = put_decimal(out, 0, number as u64);
+    next = put_letters(out, next, stations, segment.used);
+    put_byte(out, next, b'\n')
+}
+
+// Puts the line of a record that was taken, where its kind has one.
+pub fn put_printed(out: &mut [u8], kind: Kind, number: u32, segment: Segment) -> usize
+    requires { ⌜ 32 ≤ length (now out) ⌝ }
+    ensures { λ r. ⌜ Printed (printedOf kind number segment) (now (out .entry)) r (now (out .exit)) ⌝ }
+{
+    if kind_number(kind) < 3 {
+        return 0;
+    }
+    put_line(out, number, segment)
+}
+
+// Puts the line of a refusal.
+pub fn put_refused(out: &mut [u8], number: u32, refusal: u32) -> usize
+    requires { ⌜ 32 ≤ length (now out) ⌝ }
+    ensures { λ r. ⌜ Printed (refusedLine number refusal) (now (out .entry)) r (now (out .exit)) ⌝ }
+{
+    let mut next = put_decimal(out, 0, number as u64);
+    next = put(out, next, b" refused ");
+    next = put_decimal(out, next, refusal as u64);
+    put_byte(out, next, b'\n')
+}

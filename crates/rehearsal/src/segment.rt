@@ -1,0 +1,79 @@
+// The segment that a script describes, and what a record comes to.
+use crate::lent::pass_in;
+use stations::making::new_station;
+use stations::station::Station;
+ghost use mathlib.Core.Path.{_≡_};
+ghost use lib.ListN.{getD};
+ghost use Rattle.stations.specs.List.{nowhere};
+ghost use Rattle.rehearsal.specs.Clock.{allPassed};
+ghost use Rattle.rehearsal.specs.Record.{withStations};
+ghost use Rattle.rehearsal.specs.Script.{emptySegment};
+
+pub struct Segment {
+    // in number order; those from `used` on are not there yet
+    pub stations: [Station; 16],
+    pub used: usize,
+    pub vrid: u8,
+    // in seconds
+    pub interval: u8,
+    // the one virtual address
+    pub address: [u8; 4],
+    // whether a segment record was read
+    pub begun: bool,
+}
+
+pub struct Taken {
+    pub segment: Segment,
+    // 0 where the record was taken
+    pub refusal: u32,
+}
+
+// No segment was read, and no station is there.
+pub fn no_segment() -> Segment
+    ensures { λ r. ⌜ r ≡ emptySegment ⌝ }
+{
+    let address = [0u8; 4];
+    let none = new_station(0, 0, 0, false, 0, &address);
+    let nowhere = none.station;
+    Segment {
+        stations: [nowhere; 16],
+        used: 0,
+        vrid: 0,
+        interval: 0,
+        address: address,
+        begun: false,
+    }
+}
+
+// The segment with its stations after a step.
+pub fn with_stations(segment: Segment, stations: [Station; 16]) -> Segment
+    ensures { λ r. ⌜ r ≡ withStations segment stations ⌝ }
+{
+    let mut after = segment;
+    after.stations = stations;
+    after
+}
+
+// Lets so many ticks pass for the stations that are used.
+pub fn pass_all(stations: [Station; 16], used: usize, ticks: u32) -> [Station; 16]
+    ensures { λ r. ⌜ r ≡ allPassed ticks used stations ⌝ }
+{
+    let mut next = stations;
+    let mut at = 0;
+    while at < used && at < 16 {
+        let passed = pass_in(next, at, ticks);
+        next = passed;
+        at += 1;
+    }
+    next
+}
+
+// How long the latest advertisement frame of a station is; past the end nothing was sent.
+pub fn sent_by(stations: [Station; 16], at: usize) -> usize
+    ensures { λ r. ⌜ r ≡ getD stations at nowhere .sent ⌝ }
+{
+    if at >= 16 {
+        return 0;
+    }
+    stations[at].sent
+}
