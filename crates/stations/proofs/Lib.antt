@@ -17,3 +17,4 @@ pub mod ListTheorems
 mod Lending
 mod Moving
 mod OnList
+mod Advancing

@@ -1,10 +1,10 @@
 -- The stations of a segment in a lent list (01, 'The rehearsal program': "Stations count from 0").
 use Prim.Native.Nat.{ℕ}
 use mathlib.Core.Path.{_≡_}
-use mathlib.Core.List.{List, [], _∷_}
+use mathlib.Core.List.{List, [], _∷_, _++_, map}
 use mathlib.Core.Bool.{cond, not}
 use lib.Dec.{eqb, ltb}
-use lib.ListN.{length, getD, set, replicate}
+use lib.ListN.{length, take, drop, getD, set, replicate}
 use Rattle.router.specs.declared.step.Event.the-variants.{Startup, Shutdown}
 use Rattle.wire.specs.Check.{Check, firstRefusal}
 use Rattle.table.specs.Configuring.{freed}
@@ -61,6 +61,10 @@ clockedAt stations at ticks room = steppedAt (λ s room. clockedBy s ticks room)
 abbrev pub passedAt : List Station → ℕ → ℕ → List ℕ → ListResult
 passedAt stations at ticks room =
     steppedAt (λ s room. record { answer = Done 0 0; station = passed s ticks; room = room }) stations at room
+
+-- "5 clock ..: all stations in number order, each firing as often as due": those that are used, which come first
+unfoldable pub allPassed : ℕ → ℕ → List Station → List Station
+allPassed ticks used stations = map (λ (s : Station). passed s ticks) (take used stations) ++ drop used stations
 
 -- "for deliver 26, 28": "26 unused station number", "28 from equals to"
 abbrev pub deliveryChecks : ℕ → ℕ → ℕ → List Check

@@ -6,7 +6,7 @@ ghost use mathlib.Core.Path.{_≡_};
 ghost use mathlib.Core.List.{[]};
 ghost use Rattle.stations.specs.Lent.{movedBy, steppedBy};
 ghost use Rattle.stations.specs.Passing.{freshRoom};
-ghost use Rattle.stations.specs.List.{startedAt, shutAt, clockedAt, passedAt, deliveredAt};
+ghost use Rattle.stations.specs.List.{startedAt, shutAt, clockedAt, passedAt, allPassed, deliveredAt};
 
 // A step, and the numbers of the stations that it is for.
 pub enum Step {
@@ -72,4 +72,13 @@ pub fn pass_in(all: [Station; 16], at: usize, ticks: u32) -> Moved
     ensures { λ r. ⌜ r ≡ movedBy (passedAt all at ticks []) ⌝ }
 {
     step_in(all, Step::Pass(at, ticks))
+}
+
+// Lets so many ticks pass at the first stations, as many as are used; the stations are copied once for all of them.
+pub fn pass_all_in(all: [Station; 16], used: usize, ticks: u32) -> [Station; 16]
+    ensures { λ r. ⌜ r ≡ allPassed ticks used all ⌝ }
+{
+    let mut stations = all;
+    list::pass_first(&mut stations, used, ticks);
+    stations
 }

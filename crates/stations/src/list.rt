@@ -5,7 +5,9 @@ use crate::steps;
 use table::answer::Answered;
 ghost use mathlib.Core.Path.{_≡_};
 ghost use mathlib.Core.List.{[]};
-ghost use Rattle.stations.specs.List.{LeavesList, startedAt, shutAt, clockedAt, passedAt, deliveryRefusal, deliveredAt};
+ghost use Prim.Native.Nat.{min};
+ghost use Rattle.stations.specs.List.{LeavesList, startedAt, shutAt, clockedAt, passedAt, allPassed};
+ghost use Rattle.stations.specs.List.{deliveryRefusal, deliveredAt};
 
 // Starts up the station of a number; refuses by 26 and by what starting it up refuses.
 pub fn startup(stations: &mut [Station], at: usize, out: &mut [u8]) -> Answered
@@ -66,6 +68,30 @@ pub fn pass(stations: &mut [Station], at: usize, ticks: u32) -> Answered
     let after = passing::pass(before, ticks);
     stations[at] = after;
     Answered::Done(0, 0)
+}
+
+// The lesser of two numbers.
+fn least(a: usize, b: usize) -> usize
+    ensures { λ r. ⌜ r ≡ min a b ⌝ }
+{
+    if a < b {
+        return a;
+    }
+    b
+}
+
+// Lets so many ticks pass at the first stations, as many as are used; each fires as often as due.
+pub fn pass_first(stations: &mut [Station], used: usize, ticks: u32)
+    ensures { λ _. ⌜ now (stations .exit) ≡ allPassed ticks used (now (stations .entry)) ⌝ }
+{
+    let end = least(used, stations.len());
+    let mut i: usize = 0;
+    while i < end {
+        let before = stations[i];
+        let after = passing::pass(before, ticks);
+        stations[i] = after;
+        i += 1;
+    }
 }
 
 // The first of 26 and 28 that a delivery among so many stations is refused by, or 0.
