@@ -16,7 +16,7 @@ use Rattle.wire.proofs.Checks.{refusal-after, refusal-before, passed as passed-
 use Rattle.stations.specs.declared.station.Station.{Station}
 use Rattle.stations.specs.declared.station.Stepped.{Stepped}
 use Rattle.stations.specs.Making.{madeOf}
-use Rattle.stations.specs.List.{nowhere, steppedAt, passedAt}
+use Rattle.stations.specs.List.{nowhere}
 use Rattle.rehearsal.specs.declared.segment.Segment.{Segment}
 use Rattle.rehearsal.specs.declared.segment.Taken.{Taken}
 use Rattle.rehearsal.specs.declared.kinds.Kind.{Kind}
@@ -29,8 +29,6 @@ use Rattle.rehearsal.specs.declared.kinds.Kind.the-variants.{
   Clock,
   Deliver,
 }
-use Rattle.stations.specs.Passing.{passed}
-use Rattle.rehearsal.specs.Clock.{allPassed}
 use Rattle.rehearsal.specs.Kinds.{kindOf, kindNumber, bodyLength}
 use Rattle.rehearsal.specs.Checks.{recordChecks, stationChecks, numberChecks, deliverChecks, kindChecks}
 use Rattle.rehearsal.specs.Record.{withStations, withStation, afterRecord, checked, takenBy}
@@ -130,39 +128,6 @@ of-kind segment body kind known r e h = rw e h
 
 pub body-fits : (kind known : Kind) (long : ℕ) → kind ≡ known → bodyLength kind ≤ long → bodyLength known ≤ long
 body-fits kind known long e h = rw e at h
-
--- time passes for one station after another
-pub pass-next : (ticks at : ℕ) (l : List Station) → at < length l
-    → set (allPassed ticks at l) at (passed (getD (allPassed ticks at l) at nowhere) ticks) ≡ allPassed ticks (suc at) l
-unfolding allPassed
-pass-next ticks at [] h = absurd (omega arith)
-pass-next ticks zero (s ∷ l) h = refl
-pass-next ticks (suc at) (s ∷ l) h = ap (λ (r : List Station). passed s ticks ∷ r) (pass-next ticks at l (omega arith))
-
-passed-length : (ticks at : ℕ) (l : List Station) → length (allPassed ticks at l) ≡ length l
-unfolding allPassed
-passed-length ticks zero l = refl
-passed-length ticks (suc at) [] = refl
-passed-length ticks (suc at) (s ∷ l) = ap suc (passed-length ticks at l)
-
-pub pass-turn : (ticks at : ℕ) (l now next : List Station) → length l ≡ 16 → at < 16 → now ≡ allPassed ticks at l
-    → next ≡ passedAt now at ticks [] .stations → next ≡ allPassed ticks (at + 1) l
-unfolding steppedAt
-pass-turn ticks at l now next long h e f =
-    let within : at < length (allPassed ticks at l) = omega (arith, passed-length ticks at l) in
-    f ∙ rw (e, lt-ltb at (length (allPassed ticks at l)) within, add-one at) (pass-next ticks at l (omega arith))
-
-pub pass-none : (ticks : ℕ) (l : List Station) → l ≡ allPassed ticks 0 l
-unfolding allPassed
-pass-none ticks l = refl
-
-pub pass-end : (ticks at used : ℕ) (l : List Station) → length l ≡ 16 → 16 ≤ at → at ≤ used
-    → allPassed ticks at l ≡ allPassed ticks used l
-unfolding allPassed
-pass-end ticks at used l long h k =
-    let whole : length l ≤ at = omega arith in
-    let more : length l ≤ used = omega arith in
-    rw (take-all at l whole, take-all used l more, drop-of-length-le l whole, drop-of-length-le l more)
 
 -- what a station has sent
 pub sent-past : (l : List Station) (at : ℕ) → length l ≡ 16 → 16 ≤ at → 0 ≡ getD l at nowhere .sent

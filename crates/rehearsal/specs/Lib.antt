@@ -1,4 +1,3 @@
-pub mod Clock
 pub mod Kinds
 pub mod Checks
 pub mod Record

@@ -8,7 +8,7 @@ use Rattle.sums.specs.Total.{numberOf}
 use Rattle.wire.specs.Check.{Check, firstRefusal}
 use Rattle.stations.specs.declared.station.Station.{Station}
 use Rattle.stations.specs.Making.{madeOf}
-use Rattle.stations.specs.List.{startedAt, shutAt, deliveredAt}
+use Rattle.stations.specs.List.{startedAt, shutAt, deliveredAt, allPassed}
 use Rattle.rehearsal.specs.declared.segment.Segment.{Segment}
 use Rattle.rehearsal.specs.declared.segment.Taken.{Taken}
 use Rattle.rehearsal.specs.declared.kinds.Kind.{Kind}
@@ -22,7 +22,6 @@ use Rattle.rehearsal.specs.declared.kinds.Kind.the-variants.{
   Deliver,
 }
 use Rattle.stations.specs.Passing.{freshRoom}
-use Rattle.rehearsal.specs.Clock.{allPassed}
 use Rattle.rehearsal.specs.Checks.{recordChecks, kindChecks}
 
 -- "1 segment (VRID, A, one virtual address: 6 bytes)"

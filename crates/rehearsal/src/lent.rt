@@ -1,9 +1,8 @@
 // The steps on the stations in their lent list. A script does not look at their answers.
 use stations::station::Station;
 ghost use mathlib.Core.Path.{_≡_};
-ghost use mathlib.Core.List.{[]};
 ghost use Rattle.stations.specs.Passing.{freshRoom};
-ghost use Rattle.stations.specs.List.{startedAt, shutAt, passedAt, deliveredAt};
+ghost use Rattle.stations.specs.List.{startedAt, shutAt, deliveredAt};
 
 // Starts up the station of a number; past the end nothing is done.
 pub fn startup_in(all: [Station; 16], at: usize) -> [Station; 16]
@@ -19,15 +18,6 @@ pub fn shutdown_in(all: [Station; 16], at: usize) -> [Station; 16]
     ensures { λ r. ⌜ r ≡ shutAt all at freshRoom .stations ⌝ }
 {
     let moved = stations::lent::shutdown_in(all, at);
-    let after = moved.stations;
-    after
-}
-
-// Lets so many ticks pass for the station of a number; past the end nothing is done.
-pub fn pass_in(all: [Station; 16], at: usize, ticks: u32) -> [Station; 16]
-    ensures { λ r. ⌜ r ≡ passedAt all at ticks [] .stations ⌝ }
-{
-    let moved = stations::lent::pass_in(all, at, ticks);
     let after = moved.stations;
     after
 }

@@ -6,9 +6,9 @@ use crate::lent::shutdown_in;
 use crate::lent::startup_in;
 use crate::segment::Segment;
 use crate::segment::Taken;
-use crate::segment::pass_all;
 use crate::segment::sent_by;
 use crate::segment::with_stations;
+use stations::lent::pass_all_in;
 use stations::making::new_station;
 use sums::number;
 ghost use mathlib.Core.Path.{_≡_};
@@ -144,7 +144,7 @@ fn clock_record(segment: Segment, body: &[u8]) -> Taken
 {
     let ticks = 256 * (body[0] as u32) + (body[1] as u32);
     let stations = segment.stations;
-    let after = with_stations(segment, pass_all(stations, segment.used, ticks));
+    let after = with_stations(segment, pass_all_in(stations, segment.used, ticks));
     Taken {
         segment: after,
         refusal: 0,

@@ -1,11 +1,9 @@
 // The segment that a script describes, and what a record comes to.
-use crate::lent::pass_in;
 use stations::making::new_station;
 use stations::station::Station;
 ghost use mathlib.Core.Path.{_≡_};
 ghost use lib.ListN.{getD};
 ghost use Rattle.stations.specs.List.{nowhere};
-ghost use Rattle.rehearsal.specs.Clock.{allPassed};
 ghost use Rattle.rehearsal.specs.Record.{withStations};
 ghost use Rattle.rehearsal.specs.Script.{emptySegment};
 
@@ -52,20 +50,6 @@ pub fn with_stations(segment: Segment, stations: [Station; 16]) -> Segment
     let mut after = segment;
     after.stations = stations;
     after
-}
-
-// Lets so many ticks pass for the stations that are used.
-pub fn pass_all(stations: [Station; 16], used: usize, ticks: u32) -> [Station; 16]
-    ensures { λ r. ⌜ r ≡ allPassed ticks used stations ⌝ }
-{
-    let mut next = stations;
-    let mut at = 0;
-    while at < used && at < 16 {
-        let passed = pass_in(next, at, ticks);
-        next = passed;
-        at += 1;
-    }
-    next
 }
 
 // How long the latest advertisement frame of a station is; past the end nothing was sent.

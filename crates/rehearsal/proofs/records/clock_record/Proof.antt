@@ -26,8 +26,8 @@ cast-ticks-2 c = omega (arith, c .shared-slice-known3 .given 1)
 add-ticks : tie.Need-add-ticks
 add-ticks c = omega (arith, c .shared-slice-known3 .given 0, c .shared-slice-known3 .given 1)
 
-pass-all-requires : tie.Need-pass-all-requires
-pass-all-requires c κs = search needs
+pass-all-in-requires : tie.Need-pass-all-in-requires
+pass-all-in-requires c κs = search needs
 
 with-stations-requires : tie.Need-with-stations-requires
 with-stations-requires c κs = search needs
@@ -36,7 +36,7 @@ returns : tie.Need-returns
 returns c =
     let a = c .before .before .before .before .before .before .args in
     ap (λ (s : Segment). record { segment = s; refusal = 0 })
-    (c .with-stations .ensures ∙ ap (withStations (a .segment)) (c .before .pass-all .ensures))
+    (c .with-stations .ensures ∙ ap (withStations (a .segment)) (c .before .pass-all-in .ensures))
 
 pub clock-record-spec : {M : Type 1} → statement M
 clock-record-spec =
@@ -48,6 +48,6 @@ clock-record-spec =
     shared-slice-read-ticks-2
     cast-ticks-2
     add-ticks
-    pass-all-requires
+    pass-all-in-requires
     with-stations-requires
     returns)
