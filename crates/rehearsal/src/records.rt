@@ -26,21 +26,23 @@ fn segment_record(segment: Segment, body: &[u8]) -> Taken
     ensures { λ r. ⌜
         r ≡ checked segment (segmentChecks (now (body .entry))) (withSegment segment (now (body .entry))) ⌝ }
 {
-    if body[0] == 0 {
+    let vrid = body[0];
+    let interval = body[1];
+    if vrid == 0 {
         return Taken {
             segment: segment,
             refusal: 14,
         };
     }
-    if body[1] == 0 {
+    if interval == 0 {
         return Taken {
             segment: segment,
             refusal: 16,
         };
     }
     let mut after = segment;
-    after.vrid = body[0];
-    after.interval = body[1];
+    after.vrid = vrid;
+    after.interval = interval;
     after.address = [body[2], body[3], body[4], body[5]];
     after.begun = true;
     Taken {
