@@ -3,5 +3,5 @@ pub mod lent; // the steps on the stations in their list
 pub mod segment; // the segment that a script describes
 pub mod kinds; // the kinds of records
 pub mod records; // the records by kind
-pub mod lines; // the lines that are printed
+mod lines; // the lines that are printed
 pub mod run; // the script in pieces
