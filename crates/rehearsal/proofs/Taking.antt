@@ -4,11 +4,9 @@ use mathlib.Core.Path.{_≡_, refl, sym, ap, _∙_}
 use mathlib.Core.Bool.{Bool, cond, not}
 use mathlib.Core.List.{List, [], _∷_}
 use Prim.Native.Nat.{ℕ, zero, suc, _+_, _≤_, _<_}
-use native.Mathlib.Numerals.{add-one}
 use native.Mathlib.Omega.{arith}
 use lib.Dec.{eqb}
-use lib.ListN.{length, getD, set, List·getD-eq-default, drop-of-length-le}
-use lib.Seq.{take-all}
+use lib.ListN.{length, getD, set, List·getD-eq-default}
 use borrow.Author.Tests.{lt-ltb, le-ltb, eq-eqb, ne-eqb, ltb-false}
 use Rattle.sums.specs.Total.{numberOf}
 use Rattle.wire.specs.Check.{firstRefusal}
@@ -31,7 +29,7 @@ use Rattle.rehearsal.specs.declared.kinds.Kind.the-variants.{
 }
 use Rattle.rehearsal.specs.Kinds.{kindOf, kindNumber, bodyLength}
 use Rattle.rehearsal.specs.Checks.{recordChecks, stationChecks, numberChecks, deliverChecks, kindChecks}
-use Rattle.rehearsal.specs.Record.{withStations, withStation, afterRecord, checked, takenBy}
+use Rattle.rehearsal.specs.Record.{stationIn, withStations, withStation, afterRecord, checked, takenBy}
 use Rattle.rehearsal.proofs.Stored.{read-within}
 
 -- a byte that is no kind
@@ -58,11 +56,16 @@ module _ (begun : Bool) (kind : Kind) (left number long : ℕ) (is-number : numb
 
 -- a station record that is taken
 module _ (segment : Segment) (body : List ℕ) where
-  pub station-taken : (primary : ℕ) (made : Stepped) (after : Segment) → segment .used < 16 → ¬ (getD body 0 0 ≡ 0)
-      → getD body 1 0 ≤ 1 → primary ≡ numberOf (getD body 2 0) (getD body 3 0) (getD body 4 0) (getD body 5 0)
+  pub station-made : (primary : ℕ) (made : Stepped)
+      → primary ≡ numberOf (getD body 2 0) (getD body 3 0) (getD body 4 0) (getD body 5 0)
       → made ≡ madeOf (segment .vrid) (getD body 0 0) (segment .interval) (eqb (getD body 1 0) 1) primary
       (segment .address)
-      → after ≡ withStations segment (set (segment .stations) (segment .used) (made .station))
+      → made .station ≡ stationIn segment body
+  station-made primary made p m = rw (m, p)
+
+  pub station-taken : (station : Station) (after : Segment) → segment .used < 16 → ¬ (getD body 0 0 ≡ 0)
+      → getD body 1 0 ≤ 1 → station ≡ stationIn segment body
+      → after ≡ withStations segment (set (segment .stations) (segment .used) station)
       → _≡_ {A = Taken} (record {
         segment =
             record {
@@ -75,8 +78,8 @@ module _ (segment : Segment) (body : List ℕ) where
             };
         refusal = 0;
       }) (checked segment (stationChecks segment body) (withStation segment body))
-  station-taken primary made after room some most p m e =
-      rw (e, m, p, lt-ltb (segment .used) 16 room, ne-eqb (getD body 0 0) 0 some, le-ltb 1 (getD body 1 0) most)
+  station-taken station after room some most m e =
+      rw (e, m, lt-ltb (segment .used) 16 room, ne-eqb (getD body 0 0) 0 some, le-ltb 1 (getD body 1 0) most)
 
   -- startup or shutdown
   pub number-refused : (after : Segment) → segment .used ≤ getD body 0 0

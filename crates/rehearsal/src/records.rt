@@ -10,6 +10,7 @@ use crate::segment::sent_by;
 use crate::segment::with_stations;
 use stations::lent::pass_all_in;
 use stations::making::new_station;
+use stations::station::Station;
 use sums::number;
 ghost use mathlib.Core.Path.{_≡_};
 ghost use mathlib.Core.List.{[]};
@@ -18,7 +19,7 @@ ghost use lib.ListN.{length};
 ghost use Rattle.rehearsal.specs.declared.kinds.Kind.the-variants.{Startup, Shutdown, Clock, Deliver};
 ghost use Rattle.rehearsal.specs.Kinds.{bodyLength};
 ghost use Rattle.rehearsal.specs.Checks.{segmentChecks, stationChecks, numberChecks, deliverChecks, kindChecks};
-ghost use Rattle.rehearsal.specs.Record.{withSegment, withStation, afterRecord, checked, takenBy};
+ghost use Rattle.rehearsal.specs.Record.{withSegment, stationIn, withStation, afterRecord, checked, takenBy};
 
 // A segment record; refuses by 14 and 16.
 fn segment_record(segment: Segment, body: &[u8]) -> Taken
@@ -51,6 +52,25 @@ fn segment_record(segment: Segment, body: &[u8]) -> Taken
     }
 }
 
+// The station that a body describes.
+fn station_in(segment: Segment, body: &[u8]) -> Station
+    requires { ⌜ 6 ≤ length (now body) ⌝ }
+    ensures { λ r. ⌜ r ≡ stationIn segment (now (body .entry)) ⌝ }
+{
+    let primary = number(body[2], body[3], body[4], body[5]);
+    let address = segment.address;
+    let made = new_station(
+        segment.vrid,
+        body[0],
+        segment.interval,
+        body[1] == 1,
+        primary,
+        &address,
+    );
+    let station = made.station;
+    station
+}
+
 // A station record; refuses by 27, 15 and 29.
 fn station_record(segment: Segment, body: &[u8]) -> Taken
     requires { ⌜ 6 ≤ length (now body) ⌝ }
@@ -76,18 +96,8 @@ fn station_record(segment: Segment, body: &[u8]) -> Taken
             refusal: 29,
         };
     }
-    let primary = number(body[2], body[3], body[4], body[5]);
-    let address = segment.address;
-    let made = new_station(
-        segment.vrid,
-        body[0],
-        segment.interval,
-        body[1] == 1,
-        primary,
-        &address,
-    );
+    let station = station_in(segment, body);
     let mut stations = segment.stations;
-    let station = made.station;
     stations[used] = station;
     let mut after = with_stations(segment, stations);
     after.used = used + 1;

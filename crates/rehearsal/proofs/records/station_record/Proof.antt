@@ -25,32 +25,8 @@ returns-3 c =
     let at-if2 = c .before .before in
     simp (lt-ltb _ _ (at-if2 .before .before .if1 .left), ne-eqb _ _ (at-if2 .if2 .left), lt-ltb _ _ (c .if3 .taken))
 
-shared-slice-read-number : tie.Need-shared-slice-read-number
-shared-slice-read-number c = search needs
-
-shared-slice-read-number-2 : tie.Need-shared-slice-read-number-2
-shared-slice-read-number-2 c = search needs
-
-shared-slice-read-number-3 : tie.Need-shared-slice-read-number-3
-shared-slice-read-number-3 c = search needs
-
-shared-slice-read-number-4 : tie.Need-shared-slice-read-number-4
-shared-slice-read-number-4 c = search needs
-
-number-requires : tie.Need-number-requires
-number-requires c κs = search needs
-
-shared-slice-read-new-station : tie.Need-shared-slice-read-new-station
-shared-slice-read-new-station c = search needs
-
-shared-slice-read-new-station-2 : tie.Need-shared-slice-read-new-station-2
-shared-slice-read-new-station-2 c = search needs
-
-slice-aggregate-new-station : tie.Need-slice-aggregate-new-station
-slice-aggregate-new-station c = search needs
-
-new-station-requires : tie.Need-new-station-requires
-new-station-requires c κs = search needs
+station-in-requires : tie.Need-station-in-requires
+station-in-requires c κs = search needs
 
 mul-stations : tie.Need-mul-stations
 mul-stations c = search needs
@@ -63,20 +39,18 @@ with-stations-requires c κs = search needs
 
 add-after : tie.Need-add-after
 add-after c =
-    let at-number = c .before .before .before .before .before .before .before .before in
-    let at-if3 = at-number .before .before .before .before .before in
+    let at-if3 = c .before .before .before in
     let room = at-if3 .before .before .before .before .if1 .left in
     omega arith
 
 returns-4 : tie.Need-returns-4
 returns-4 c =
-    let at-made = c .before .before .before in
-    let at-number = at-made .before .before .before .before .before in
-    let at-if3 = at-number .before .before .before .before .before in
+    let at-station = c .before .before in
+    let at-if3 = at-station .before in
     let at-if1 = at-if3 .before .before .before .before in
     let a = at-if1 .before .before .args in
-    station-taken (a .segment) (now (a .body)) _ _ _ (at-if1 .if1 .left) (at-if3 .before .before .if2 .left)
-    (at-if3 .if3 .left) (at-number .number .ensures) (at-made .new-station .ensures) (c .with-stations .ensures)
+    station-taken (a .segment) (now (a .body)) _ _ (at-if1 .if1 .left) (at-if3 .before .before .if2 .left)
+    (at-if3 .if3 .left) (at-station .station-in .ensures) (c .with-stations .ensures)
 
 pub station-record-spec : {M : Type 1} → statement M
 station-record-spec =
@@ -87,15 +61,7 @@ station-record-spec =
     returns-2
     shared-slice-read-if3
     returns-3
-    shared-slice-read-number
-    shared-slice-read-number-2
-    shared-slice-read-number-3
-    shared-slice-read-number-4
-    number-requires
-    shared-slice-read-new-station
-    shared-slice-read-new-station-2
-    slice-aggregate-new-station
-    new-station-requires
+    station-in-requires
     mul-stations
     array-set-from-stations
     with-stations-requires
