@@ -1,23 +1,25 @@
--- The fires of a Master, taken together: `passing::pass` cites it.
---     fired           a station that fired and has ticks left is Steady
---     steady-passed   what so many ticks leave of a Steady station
+-- The fires of a station's timer, taken together: the functions of `passing` cite it.
+--     counts-of-backup, counts-of-other   the counts after a fire, by the state's number
+--     passed-silent   what passes where the timer does not fire
+--     passed-due      what passes where it does: all fires of the router, and its own advertisement
 -- Assumes nothing.
 use mathlib.Core.Path.{_≡_, refl, sym, ap, _∙_}
 use mathlib.Core.Bool.{Bool, true, false, cond}
 use mathlib.Core.List.{List, _++_}
 use mathlib.Core.Logic.{dite}
-use Prim.Native.Nat.{ℕ, zero, suc, _+_, _-_, _%_, _≤_, _<_}
+use Prim.Native.Nat.{ℕ, zero, suc, _+_, _-_, _*_, _%_, _≤_, _<_}
 use native.Mathlib.Nat.{le-of-lt, mod-lt, mod-eq-of-lt, mod-eq-sub-mod, zero-mod}
 use native.Mathlib.Decide.{decLt}
 use native.Mathlib.Omega.{arith}
-use lib.Dec.{eqb, ltb}
-use lib.ListN.{length, take, drop, length-replicate}
+use lib.Dec.{eqb, leb}
+use lib.ListN.{length, take, drop}
 use lib.Seq.{take-at, take-all, drop-at}
-use borrow.Author.Tests.{lt-ltb, le-ltb, eq-eqb, ne-eqb, ltb-false, eqb-true, eqb-false}
+use borrow.Author.Tests.{lt-ltb, le-ltb, ne-eqb, eqb-true, eqb-false, leb-true, leb-false}
 use Rattle.wire.specs.Writing.{over}
 use Rattle.wire.specs.Frame.{frameOf}
 use Rattle.router.specs.declared.record.State.{State}
 use Rattle.router.specs.declared.record.State.the-variants.{Initialize, Backup, Master}
+use Rattle.router.specs.declared.record.Counts.{Counts}
 use Rattle.router.specs.declared.record.Router.{Router}
 use Rattle.router.specs.declared.step.Writes.{Writes}
 use Rattle.router.specs.declared.step.Writes.the-variants.{Nothing, Advertisement, Farewell, Takeover}
@@ -25,288 +27,281 @@ use Rattle.router.specs.declared.step.Event.the-variants.{Timer}
 use Rattle.router.specs.declared.step.Outcome.{Outcome}
 use Rattle.router.specs.declared.clock.Ticked.{Ticked}
 use Rattle.router.specs.Timers.{advertisementIntervalOf}
-use Rattle.router.specs.Step.{withState, stays, stepIn, stepOf}
+use Rattle.router.specs.Step.{stateNumber, withState, withCounts, becameMaster, stepIn, stepOf}
 use Rattle.router.specs.Clock.{falls, fires, tickedIn, tickedOf}
 use Rattle.output.specs.Output.{arpsOf, bytesOf, needOf}
 use Rattle.output.proofs.Lengths.{frame-length}
-use Rattle.table.specs.declared.answer.Answered.the-variants.{Done, Short}
+use Rattle.table.specs.declared.answer.Answered.the-variants.{Done}
 use Rattle.stations.specs.declared.station.Station.{Station}
-use Rattle.stations.specs.declared.station.Stepped.{Stepped}
-use Rattle.stations.specs.Station.{Leaves, listOf, withRouter, withFrame}
-use Rattle.stations.specs.Acting.{neededBy, keptBy, actedBy}
+use Rattle.stations.specs.Station.{listOf, withRouter, withFrame}
+use Rattle.stations.specs.Acting.{writtenBy, neededBy, keptBy, actedBy}
 use Rattle.stations.specs.Steps.{clockedBy}
-use Rattle.stations.specs.Passing.{freshRoom, leftoverOf, passedIn, passed}
+use Rattle.stations.specs.Passing.{roomBytes, freshRoom, passedIn, passed, dueIn, countsIn, firedOf, elapsedOf}
+use Rattle.stations.proofs.Arrays.{list-length}
 
-room-length : length freshRoom ≡ 96
-unfolding freshRoom
-room-length = refl
+pub rest-below : (n m : ℕ) → ¬ (m ≡ 0) → n % m ≤ m
+rest-below n m some = le-of-lt (mod-lt n (omega arith))
+
+pub counts-of-backup : (state : State) (counts : Counts) → stateNumber state ≡ 1
+    → countsIn state counts ≡ becameMaster counts
+counts-of-backup Initialize counts e = absurd (omega arith)
+counts-of-backup Backup counts e = refl
+counts-of-backup Master counts e = absurd (omega arith)
+
+pub counts-of-other : (state : State) (counts : Counts) → ¬ (stateNumber state ≡ 1) → countsIn state counts ≡ counts
+counts-of-other Initialize counts n = refl
+counts-of-other Backup counts n = absurd (n refl)
+counts-of-other Master counts n = refl
 
 -- the advertisement of a station
-abbrev ownFrame : Station → List ℕ
+abbrev pub ownFrame : Station → List ℕ
 ownFrame s = frameOf (s .router .vrid) (s .router .priority) (s .router .interval) (s .primary) (listOf s)
 
 -- the station with another timer
-abbrev pub withTimer : Station → ℕ → Station
+abbrev withTimer : Station → ℕ → Station
 withTimer s timer = withRouter s (withState (s .router) (s .router .state) timer)
 
--- a Master that has just advertised: to advertise again leaves it as it is
-pub record Steady (s : Station) : Type 0 where
-  pub master : s .router .state ≡ Master
-  pub full : s .router .timer ≡ advertisementIntervalOf (s .router .interval)
-  pub fits : 50 + length (listOf s) ≤ 96
-  pub kept : withFrame s (ownFrame s) ≡ s
+-- a router that has just fired: a Master whose timer is full
+abbrev full : Router → Router
+full r = withState (withCounts r (countsIn (r .state) (r .counts))) Master (advertisementIntervalOf (r .interval))
+
+-- a station that has just fired
+abbrev after : Station → Station
+after s = withFrame (withRouter s (full (s .router))) (ownFrame s)
 
 -- what is written over with the same bytes stays
 over-again : (bytes before : List ℕ) → over bytes (over bytes before) ≡ over bytes before
 over-again bytes before =
     ap (λ (l : List ℕ). bytes ++ l) (drop-at bytes (drop (length bytes) before) (length bytes) refl)
 
+-- to fire again leaves the very station
+after-again : (s : Station) → after (after s) ≡ after s
+unfolding listOf
+after-again s =
+    ap (λ (l : List ℕ). record {
+      primary = s .primary;
+      router = full (s .router);
+      refusals = s .refusals;
+      addresses = s .addresses;
+      frame = l;
+      sent = length (ownFrame s);
+    }) (over-again (ownFrame s) (s .frame))
+
 -- an outcome that advertises, and so is kept
 data Advertises : Writes → Type 0 where
   alone : Advertises Advertisement
   with-arps : Advertises Takeover
 
-module _ (s : Station) (o : Outcome) where
-  -- what is kept begins with the advertisement
-  abbrev frame : List ℕ
-  frame = frameOf (o .router .vrid) (o .router .priority) (o .router .interval) (s .primary) (listOf s)
+some-need : (w : Writes) (n : ℕ) → Advertises w → 50 + n ≤ needOf w n
+some-need Advertisement n alone = omega arith
+some-need Takeover n with-arps = omega arith
 
-  first-bytes : (w : Writes) → Advertises w
-      → take (50 + length (listOf s)) (bytesOf w (o .router) (s .primary) (listOf s)) ≡ frame
-  first-bytes Advertisement alone =
-      take-all (50 + length (listOf s)) frame
-      (omega (arith, frame-length (o .router .vrid) (o .router .priority) (o .router .interval) (s .primary) (listOf s)))
-  first-bytes Takeover with-arps =
-      take-at frame (arpsOf (o .router .vrid) (listOf s)) (50 + length (listOf s))
-      (frame-length (o .router .vrid) (o .router .priority) (o .router .interval) (s .primary) (listOf s))
+most-need : (w : Writes) (n : ℕ) → n ≤ 64 → needOf w n ≤ roomBytes
+most-need Nothing n h = omega arith
+most-need Advertisement n h = omega arith
+most-need Farewell n h = omega arith
+most-need Takeover n h = omega arith
 
-  some-need : (w : Writes) (n : ℕ) → Advertises w → 50 + n ≤ needOf w n
-  some-need Advertisement n alone = omega arith
-  some-need Takeover n with-arps = omega arith
+room-length : length freshRoom ≡ roomBytes
+unfolding freshRoom
+room-length = refl
 
-  keeps-frame : Advertises (o .writes) → keptBy s o ≡ withFrame (withRouter s (o .router)) frame
-  keeps-frame a =
-      let least = some-need (o .writes) (length (listOf s)) a in
-      let some : ¬ (neededBy s o ≡ 0) = λ z. omega arith in
-      rw (ne-eqb (neededBy s o) 0 some, first-bytes (o .writes) a)
+-- what is kept begins with the advertisement
+first-bytes : (w : Writes) (r : Router) (primary : ℕ) (list : List ℕ) → Advertises w
+    → take (50 + length list) (bytesOf w r primary list) ≡ frameOf (r .vrid) (r .priority) (r .interval) primary list
+first-bytes Advertisement r primary list alone =
+    let long = frame-length (r .vrid) (r .priority) (r .interval) primary list in
+    take-all (50 + length list) (frameOf (r .vrid) (r .priority) (r .interval) primary list) (omega arith)
+first-bytes Takeover r primary list with-arps =
+    take-at (frameOf (r .vrid) (r .priority) (r .interval) primary list) (arpsOf (r .vrid) list) (50 + length list)
+    (frame-length (r .vrid) (r .priority) (r .interval) primary list)
 
-  same-list : (bytes : List ℕ) → o .router .count ≡ s .router .count
-      → listOf (withFrame (withRouter s (o .router)) bytes) ≡ listOf s
-  unfolding listOf
-  same-list bytes e = rw e
+-- the outcome of a timer that runs
+module _ (primary : ℕ) (r : Router) where
+  runs-out : (state : State) → ¬ (stateNumber state ≡ 0)
+      → Advertises (stepIn state Timer primary r .writes)
+      × (stepIn state Timer primary r .router
+      ≡ withState (withCounts r (countsIn state (r .counts))) Master (advertisementIntervalOf (r .interval)))
+  runs-out Initialize n = absurd (n refl)
+  runs-out Backup n = (with-arps, refl)
+  runs-out Master n = (alone, refl)
 
-  -- it is Steady where the Master's timer is full
-  kept-steady : Advertises (o .writes) → o .router .count ≡ s .router .count → o .router .state ≡ Master
-      → o .router .timer ≡ advertisementIntervalOf (o .router .interval) → neededBy s o ≤ 96 → Steady (keptBy s o)
-  kept-steady a count m full fits =
-      let least = some-need (o .writes) (length (listOf s)) a in
-      let same = same-list frame count in
-      rw (keeps-frame a)
-      (record {
-        master = m;
-        full = full;
-        fits = rw same (omega arith);
-        kept =
-            rw same
-            (ap (λ (l : List ℕ). record {
-              primary = s .primary;
-              router = o .router;
-              refusals = s .refusals;
-              addresses = s .addresses;
-              frame = l;
-              sent = length frame;
-            }) (over-again frame (s .frame)));
-      })
+  ticks-short : (state : State) (d : ℕ) → ¬ (stateNumber state ≡ 0) → d < r .timer
+      → tickedIn state primary r d ≡ falls r d
+  ticks-short Initialize d n h = absurd (n refl)
+  ticks-short Backup d n h = rw (lt-ltb d (r .timer) h)
+  ticks-short Master d n h = rw (lt-ltb d (r .timer) h)
 
-  -- what is left over, and where the room is too small nothing is
-  acted-fired : (t : Bool) (leftover : ℕ) → ltb (length freshRoom) (neededBy s o) ≡ t
-      → ¬ (leftoverOf (actedBy s o leftover freshRoom .answer) ≡ 0)
-      → (actedBy s o leftover freshRoom .station ≡ keptBy s o) × (neededBy s o ≤ 96)
-      × (leftoverOf (actedBy s o leftover freshRoom .answer) ≡ leftover)
+  ticks-out : (state : State) (d : ℕ) → ¬ (stateNumber state ≡ 0) → r .timer ≤ d
+      → tickedIn state primary r d ≡ fires primary r d
+  ticks-out Initialize d n h = absurd (n refl)
+  ticks-out Backup d n h = rw (le-ltb d (r .timer) h)
+  ticks-out Master d n h = rw (le-ltb d (r .timer) h)
+
+  ticks-none : (state : State) (d : ℕ) → stateNumber state ≡ 0
+      → tickedIn state primary r d ≡ tickedIn Initialize primary r d
+  ticks-none Initialize d e = refl
+  ticks-none Backup d e = absurd (omega arith)
+  ticks-none Master d e = absurd (omega arith)
+
+module _ (s : Station) (long : length (s .addresses) ≡ 64) where
+  abbrev state : ℕ
+  state = stateNumber (s .router .state)
+
+  abbrev ticked : ℕ → Ticked
+  ticked d = tickedOf (s .primary) (s .router) d
+
+  -- no outcome is refused for room
+  acted-whole : (o : Outcome) (leftover : ℕ) → actedBy s o leftover freshRoom
+      ≡ record {
+        answer = Done (neededBy s o) leftover;
+        station = keptBy s o;
+        room = over (writtenBy s o) freshRoom;
+      }
   unfolding actedBy
-  acted-fired true leftover e n = absurd (n (rw e))
-  acted-fired false leftover e n =
-      let fits = ltb-false (length freshRoom) (neededBy s o) e in
-      (rw e, omega (arith, room-length), rw e)
+  acted-whole o leftover =
+      let few : s .router .count % 17 < 17 = mod-lt (s .router .count) (omega arith) in
+      let most = most-need (o .writes) (length (listOf s)) (omega (arith, list-length s long)) in
+      rw (le-ltb (length freshRoom) (neededBy s o) (omega (arith, room-length)))
 
-acted-zero : (s : Station) (o : Outcome) (t : Bool) → ltb (length freshRoom) (neededBy s o) ≡ t
-    → leftoverOf (actedBy s o 0 freshRoom .answer) ≡ 0
-unfolding actedBy
-acted-zero s o true e = rw e
-acted-zero s o false e = rw e
+  -- so what passes goes by the router's clock alone
+  by-clock : (times d : ℕ) (t : Ticked) → ticked d ≡ t
+      → passedIn (suc times) s d
+      ≡ cond (eqb (t .leftover) 0) (keptBy s (t .outcome)) (passedIn times (keptBy s (t .outcome)) (t .leftover))
+  unfolding passedIn clockedBy
+  by-clock times d t e = rw (e, acted-whole (t .outcome) (t .leftover))
 
--- a fire: an outcome that advertises and leaves a Master with a full timer
-record Fire (s : Station) (o : Outcome) : Type 0 where
-  advertised : Advertises (o .writes)
-  same-count : o .router .count ≡ s .router .count
-  is-master : o .router .state ≡ Master
-  is-full : o .router .timer ≡ advertisementIntervalOf (o .router .interval)
+  stays-passed : (times d : ℕ) → state ≡ 0 → passedIn (suc times) s d ≡ s
+  unfolding tickedOf
+  stays-passed times d z = by-clock times d _ (ticks-none (s .primary) (s .router) (s .router .state) d z)
 
-backup-fires : (s : Station) → s .router .state ≡ Backup → Fire s (stepOf (s .primary) (s .router) Timer)
-unfolding stepOf
-backup-fires s e = rw e (record { advertised = with-arps; same-count = refl; is-master = refl; is-full = refl })
+  falls-passed : (times d : ℕ) → ¬ (state ≡ 0) → d < s .router .timer
+      → passedIn (suc times) s d ≡ withTimer s (s .router .timer - d)
+  unfolding tickedOf
+  falls-passed times d n h = by-clock times d _ (ticks-short (s .primary) (s .router) (s .router .state) d n h)
 
-master-fires : (s : Station) → s .router .state ≡ Master → Fire s (stepOf (s .primary) (s .router) Timer)
-unfolding stepOf
-master-fires s e = rw e (record { advertised = alone; same-count = refl; is-master = refl; is-full = refl })
+  fire-kept : ¬ (state ≡ 0) → keptBy s (stepOf (s .primary) (s .router) Timer) ≡ after s
+  unfolding stepOf
+  fire-kept n =
+      let o = stepOf (s .primary) (s .router) Timer in
+      let out = runs-out (s .primary) (s .router) (s .router .state) n in
+      let least = some-need (o .writes) (length (listOf s)) (out .0) in
+      let some : ¬ (neededBy s o ≡ 0) = λ z. omega arith in
+      rw (
+        ne-eqb (neededBy s o) 0 some,
+        first-bytes (o .writes) (o .router) (s .primary) (listOf s) (out .0),
+        out .1,
+      )
 
--- where ticks are left over the station is Steady, and no more is left than was handed in
-abbrev Fired : Station → ℕ → Ticked → Type 0
-Fired s ticks t =
-    ¬ (leftoverOf (actedBy s (t .outcome) (t .leftover) freshRoom .answer) ≡ 0)
-    → Steady (actedBy s (t .outcome) (t .leftover) freshRoom .station)
-    × (leftoverOf (actedBy s (t .outcome) (t .leftover) freshRoom .answer) ≤ ticks)
+  fires-passed : (times d : ℕ) → ¬ (state ≡ 0) → s .router .timer ≤ d
+      → passedIn (suc times) s d
+      ≡ cond (eqb (d - s .router .timer) 0) (after s) (passedIn times (after s) (d - s .router .timer))
+  unfolding tickedOf
+  fires-passed times d n h =
+      by-clock times d _ (ticks-out (s .primary) (s .router) (s .router .state) d n h) ∙ rw (fire-kept n)
 
-either-fired : (t : Bool) (s : Station) (ticks : ℕ) → Fire s (stepOf (s .primary) (s .router) Timer)
-    → Fired s ticks (cond t (falls (s .router) ticks) (fires (s .primary) (s .router) ticks))
-either-fired true s ticks f n = absurd (n (acted-zero s (falls (s .router) ticks .outcome) _ refl))
-either-fired false s ticks f n =
-    let o = stepOf (s .primary) (s .router) Timer in
-    let g = acted-fired s o (ltb (length freshRoom) (neededBy s o)) (ticks - s .router .timer) refl n in (
-      rw (g .0) (kept-steady s o (f .advertised) (f .same-count) (f .is-master) (f .is-full) (g .1)),
-      omega (arith, g .2),
-    )
-
-fired-in : (state : State) (s : Station) (ticks : ℕ) → s .router .state ≡ state
-    → Fired s ticks (tickedIn state (s .primary) (s .router) ticks)
-fired-in Initialize s ticks e n = absurd (n (acted-zero s (stays (s .router)) _ refl))
-fired-in Backup s ticks e n = either-fired (ltb ticks (s .router .timer)) s ticks (backup-fires s e) n
-fired-in Master s ticks e n = either-fired (ltb ticks (s .router .timer)) s ticks (master-fires s e) n
-
-pub fired : (s : Station) (ticks : ℕ) → ¬ (leftoverOf (clockedBy s ticks freshRoom .answer) ≡ 0)
-    → Steady (clockedBy s ticks freshRoom .station) × (leftoverOf (clockedBy s ticks freshRoom .answer) ≤ ticks)
-unfolding clockedBy tickedOf
-fired s ticks n = fired-in (s .router .state) s ticks refl n
-
+-- the fires after the first
 either-is : {a b : Station} (t : Bool) → b ≡ a → cond t a b ≡ a
 either-is true e = refl
 either-is false e = e
 
--- a Steady station: its timer falls, or fires and is full again
-same-router : (r : Router) (state : State) (timer : ℕ) → r .state ≡ state → r .timer ≡ timer
-    → withState r state timer ≡ r
-same-router r state timer e f = rw (← e, ← f)
+module _ (s : Station) (long : length (s .addresses) ≡ 64) where
+  abbrev interval : ℕ
+  interval = advertisementIntervalOf (s .router .interval)
 
-module _ (s : Station) (steady : Steady s) where
-  abbrev full-timer : ℕ
-  full-timer = s .router .timer
+  is-running : ¬ (stateNumber Master ≡ 0)
+  is-running e = omega arith
 
-  falls-short : (d : ℕ) → d < full-timer
-      → tickedOf (s .primary) (s .router) d ≡ falls (s .router) d
-  unfolding tickedOf
-  falls-short d h = rw (steady .master, lt-ltb d full-timer h)
-
-  fires-again : (d : ℕ) → full-timer ≤ d
-      → tickedOf (s .primary) (s .router) d
-      ≡ record { outcome = record { router = s .router; writes = Advertisement }; leftover = d - full-timer }
-  unfolding tickedOf stepOf
-  fires-again d h =
-      ap (λ (state : State). tickedIn state (s .primary) (s .router) d) (steady .master)
-      ∙ ap (λ (t : Bool). cond t (falls (s .router) d) (fires (s .primary) (s .router) d)) (le-ltb d full-timer h)
-      ∙ ap (λ (state : State). record {
-        outcome = stepIn state Timer (s .primary) (s .router);
-        leftover = d - full-timer;
-      }) (steady .master)
-      ∙ ap (λ (r : Router). record {
-        outcome = record { router = r; writes = Advertisement };
-        leftover = d - full-timer;
-      }) (same-router (s .router) Master _ (steady .master) (steady .full))
-
-  short-clocked : (d : ℕ) → d < full-timer
-      → clockedBy s d freshRoom
-      ≡ record { answer = Done 0 0; station = withTimer s (full-timer - d); room = freshRoom }
-  unfolding clockedBy actedBy
-  short-clocked d h = rw (falls-short d h, le-ltb (length freshRoom) 0 (omega arith))
-
-  again-clocked : (d : ℕ) → full-timer ≤ d
-      → (leftoverOf (clockedBy s d freshRoom .answer) ≡ d - full-timer) × (clockedBy s d freshRoom .station ≡ s)
-  unfolding clockedBy actedBy
-  again-clocked d h =
-      let o : Outcome = record { router = s .router; writes = Advertisement } in
-      let need : ℕ = 50 + length (listOf s) in
-      let fits : need ≤ length freshRoom = omega (arith, room-length, steady .fits) in
-      let t = le-ltb (length freshRoom) need fits in
-      (rw (fires-again d h, t), rw (fires-again d h, t) (keeps-frame s o alone ∙ steady .kept))
+  more-fires : (times d : ℕ) → interval ≤ d
+      → passedIn (suc times) (after s) d
+      ≡ cond (eqb (d - interval) 0) (after s) (passedIn times (after s) (d - interval))
+  more-fires times d h = fires-passed (after s) long times d is-running h ∙ rw (after-again s)
 
   -- a timer of 0, which no configured station has, fires for ever and changes nothing
-  pub stuck-passed : (times d : ℕ) → full-timer ≡ 0 → passedIn times s d ≡ s
+  stuck-passed : (times d : ℕ) → interval ≡ 0 → passedIn times (after s) d ≡ after s
   unfolding passedIn
   stuck-passed zero d z = refl
   stuck-passed (suc times) d z =
-      let again = again-clocked d (omega arith) in
-      rw (again .1) (either-is (eqb (leftoverOf (clockedBy s d freshRoom .answer)) 0) (stuck-passed times _ z))
-
-  full-again : full-timer - 0 ≡ full-timer
-  full-again = omega arith
+      more-fires times d (omega arith) ∙ either-is (eqb (d - interval) 0) (stuck-passed times (d - interval) z)
 
   -- the last fire leaves nothing over, or there are more
   last-or-more : (t : Bool) (left : ℕ) (more : Station) → eqb left 0 ≡ t
-      → more ≡ withTimer s (full-timer - left % full-timer)
-      → cond t s more ≡ withTimer s (full-timer - left % full-timer)
-  last-or-more true left more e h = rw (eqb-true left 0 e, zero-mod full-timer, full-again)
+      → more ≡ withTimer (after s) (interval - left % interval)
+      → cond t (after s) more ≡ withTimer (after s) (interval - left % interval)
+  last-or-more true left more e h =
+      let none : left % interval ≡ 0 = ap (λ (n : ℕ). n % interval) (eqb-true left 0 e) ∙ zero-mod interval in
+      let whole : interval ≡ interval - left % interval = omega arith in
+      ap (withTimer (after s)) whole
   last-or-more false left more e h = h
 
-  pub steady-passed : (times d : ℕ) → 0 < full-timer → d < times
-      → passedIn times s d ≡ withTimer s (full-timer - d % full-timer)
-  unfolding passedIn
+  steady-passed : (times d : ℕ) → 0 < interval → d < times
+      → passedIn times (after s) d ≡ withTimer (after s) (interval - d % interval)
   steady-passed (suc times) d some enough =
-      dite (decLt d full-timer)
-      (λ h. rw (short-clocked d h, mod-eq-of-lt h))
+      dite (decLt d interval)
+      (λ h. falls-passed (after s) long times d is-running h ∙ rw (mod-eq-of-lt h))
       (λ h.
-      let most : full-timer ≤ d = omega arith in
-      let again = again-clocked d most in
-      let left = d - full-timer in
-      rw (again .0, again .1, mod-eq-sub-mod most)
-      (last-or-more (eqb left 0) left (passedIn times s left) refl (steady-passed times left some (omega arith))))
+      let most : interval ≤ d = omega arith in
+      let left = d - interval in
+      more-fires times d most
+      ∙ last-or-more (eqb left 0) left (passedIn times (after s) left) refl
+      (steady-passed times left some (omega arith))
+      ∙ rw (mod-eq-sub-mod most))
 
--- what passes, by what the first step leaves over
-pub passed-once : (s : Station) (ticks : ℕ) → leftoverOf (clockedBy s ticks freshRoom .answer) ≡ 0
-    → passed s ticks ≡ clockedBy s ticks freshRoom .station
-unfolding passed passedIn
-passed-once s ticks z = rw z
+  after-passed : (times d : ℕ) → d < times
+      → passedIn times (after s) d ≡ withTimer (after s) (interval - d % interval)
+  after-passed times d enough =
+      dite (decLt 0 interval)
+      (λ some. steady-passed times d some enough)
+      (λ n.
+      let none : interval ≡ interval - d % interval = omega arith in
+      stuck-passed times d (omega arith) ∙ ap (withTimer (after s)) none)
 
-module _ (s : Station) (ticks : ℕ) (n : ¬ (leftoverOf (clockedBy s ticks freshRoom .answer) ≡ 0)) where
-  abbrev after : Station
-  after = clockedBy s ticks freshRoom .station
+module _ (s : Station) (long : length (s .addresses) ≡ 64) (ticks : ℕ) where
+  abbrev timer : ℕ
+  timer = s .router .timer
 
-  abbrev left : ℕ
-  left = leftoverOf (clockedBy s ticks freshRoom .answer)
+  abbrev stopped : Bool
+  stopped = eqb (stateNumber (s .router .state)) 0
 
-  passed-again : passed s ticks ≡ passedIn (suc ticks) after left
-  unfolding passed passedIn
-  passed-again = rw (ne-eqb left 0 n)
+  abbrev elapsed : Station
+  elapsed = withRouter s (elapsedOf (s .router) ticks)
 
-  pub passed-stuck : after .router .timer ≡ 0 → passed s ticks ≡ after
-  passed-stuck z = passed-again ∙ stuck-passed after (fired s ticks n .0) (suc ticks) left z
+  by-tests : (t u : Bool) → stopped ≡ t → leb timer ticks ≡ u
+      → cond (dueIn (s .router) ticks) (withFrame elapsed (ownFrame s)) elapsed ≡ passed s ticks
+  unfolding dueIn elapsedOf firedOf passed
+  by-tests true u e f = rw e (sym (stays-passed s long (suc ticks) ticks (eqb-true _ 0 e)))
+  by-tests false false e f =
+      rw (e, f) (sym (falls-passed s long (suc ticks) ticks (eqb-false _ 0 e) (leb-false timer ticks f)))
+  by-tests false true e f =
+      let left = ticks - timer in
+      let first = fires-passed s long (suc ticks) ticks (eqb-false _ 0 e) (leb-true timer ticks f) in
+      let more = after-passed s long (suc ticks) left (omega arith) in
+      let all = last-or-more s long (eqb left 0) left (passedIn (suc ticks) (after s) left) refl more in
+      rw (e, f) (sym (first ∙ all))
 
-  pub passed-more : ¬ (after .router .timer ≡ 0)
-      → passed s ticks ≡ withTimer after (after .router .timer - left % after .router .timer)
-  passed-more some =
-      let f = fired s ticks n in
-      passed-again ∙ steady-passed after (f .0) (suc ticks) left (omega arith) (omega (arith, f .1))
+  is-passed : cond (dueIn (s .router) ticks) (withFrame elapsed (ownFrame s)) elapsed ≡ passed s ticks
+  is-passed = by-tests stopped (leb timer ticks) refl refl
 
--- the code's values: what the first step left, and the ticks that it left over
-module _ (s : Station) (ticks : ℕ) (stepped : Stepped) (room : List ℕ) (leftover : ℕ)
-    (leaves : Leaves (clockedBy s ticks freshRoom) stepped room) (is-leftover : leftover ≡ leftoverOf (stepped .answer)) where
-  same-leftover : leftover ≡ leftoverOf (clockedBy s ticks freshRoom .answer)
-  same-leftover = is-leftover ∙ ap leftoverOf (leaves .answer-is)
+  -- the code's values: the router, the frame and how long it is
+  module _ (router : Router) (frame : List ℕ) (sent : ℕ) (is-router : router ≡ elapsedOf (s .router) ticks) where
+    abbrev made : Station
+    made =
+        record {
+          primary = s .primary;
+          router = router;
+          refusals = s .refusals;
+          addresses = s .addresses;
+          frame = frame;
+          sent = sent;
+        }
 
-  pub pass-once : leftover ≡ 0 → stepped .station ≡ passed s ticks
-  pass-once z = leaves .station-is ∙ sym (passed-once s ticks (sym same-leftover ∙ z))
+    pub passed-silent : dueIn (s .router) ticks ≡ false → frame ≡ s .frame → sent ≡ s .sent → made ≡ passed s ticks
+    passed-silent due same-frame same-sent = rw (is-router, same-frame, same-sent, ← is-passed, due)
 
-  pub pass-stuck : ¬ (leftover ≡ 0) → stepped .station .router .timer ≡ 0 → stepped .station ≡ passed s ticks
-  pass-stuck n z =
-      leaves .station-is
-      ∙ sym (passed-stuck s ticks (λ e. n (same-leftover ∙ e))
-      (sym (ap (λ (t : Station). t .router .timer) (leaves .station-is)) ∙ z))
-
-  pub pass-more : ¬ (leftover ≡ 0) → ¬ (stepped .station .router .timer ≡ 0)
-      → withTimer (stepped .station) (stepped .station .router .timer - leftover % stepped .station .router .timer)
-      ≡ passed s ticks
-  pass-more n some =
-      let same = ap (λ (t : Station). t .router .timer) (leaves .station-is) in
-      rw (leaves .station-is, same-leftover)
-      (sym (passed-more s ticks (λ e. n (same-leftover ∙ e)) (λ z. some (same ∙ z))))
-
-pub rest-below : (n m : ℕ) → ¬ (m ≡ 0) → n % m ≤ m
-rest-below n m some = le-of-lt (mod-lt n (omega arith))
+    pub passed-due : dueIn (s .router) ticks ≡ true → frame ≡ over (ownFrame s) (s .frame)
+        → sent ≡ 50 + 4 * (s .router .count % 17) → made ≡ passed s ticks
+    passed-due due wrote is-sent =
+        let own = s .router in
+        let whole = frame-length (own .vrid) (own .priority) (own .interval) (s .primary) (listOf s) in
+        let is-length : sent ≡ length (ownFrame s) = omega (arith, list-length s long) in
+        rw (is-router, wrote, is-length, ← is-passed, due)

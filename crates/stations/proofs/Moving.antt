@@ -24,7 +24,7 @@ use Rattle.stations.specs.declared.station.Station.{Station}
 use Rattle.stations.specs.declared.lent.Step.{Step}
 use Rattle.stations.specs.declared.lent.Moved.{Moved}
 use Rattle.stations.specs.List.{ListResult, LeavesList}
-use Rattle.stations.specs.Passing.{freshRoom}
+use Rattle.stations.specs.Passing.{roomBytes, freshRoom}
 use Rattle.stations.specs.Lent.{movedBy}
 use Rattle.stations.proofs.Rows.{R, Answers, told, answer-tells}
 use Rattle.stations.proofs.station.Station as S
@@ -38,7 +38,7 @@ abbrev pub All : RattleType
 All = Array R 16
 
 abbrev pub Bytes : RattleType
-Bytes = Array u8 96
+Bytes = Array u8 roomBytes
 
 abbrev pub alls : List Station → Val
 alls l = only (array-vals (LL.vals S.the-type S′.the-laws) l)
@@ -55,11 +55,11 @@ zeros zero = tt
 zeros (suc n) = ((refl, lit< tt), zeros n)
 
 unfoldable pub zerosVal : Val
-zerosVal = arrayVal (replicate 96 (vint w8 0))
+zerosVal = arrayVal (replicate roomBytes (vint w8 0))
 
 pub is-room : Is Bytes freshRoom (zerosVal ∷ [])
 unfolding freshRoom zerosVal
-is-room = (replicate 96 (vint w8 0), ((refl, refl), zeros 96))
+is-room = (replicate roomBytes (vint w8 0), ((refl, refl), zeros roomBytes))
 
 -- what is returned, and what whoever returns it has to know
 abbrev pub moved : List Station → Answered → Moved
@@ -104,8 +104,8 @@ module _ {M : Type 1} (𝓤 : URA M) (H : Heap 𝓤) (A : Atoms 𝓤) (W : Given
       → T (hasTy (tyArray S′.mir 16) (alls zs)) × WT (alls zs)
   all-typed zs is = array-lawful 𝓤 H A W R (LL.lawful S.the-type S′.the-laws 𝓤 H A W) 16 .typed zs _ is .0
 
-  pub room-typed : T (hasTy (tyArray (tyInt w8) 96) zerosVal) × WT zerosVal
-  room-typed = array-lawful 𝓤 H A W u8 (uint-lawful 𝓤 H A W w8) 96 .typed freshRoom _ is-room .0
+  pub room-typed : T (hasTy (tyArray (tyInt w8) roomBytes) zerosVal) × WT zerosVal
+  room-typed = array-lawful 𝓤 H A W u8 (uint-lawful 𝓤 H A W w8) roomBytes .typed freshRoom _ is-room .0
 
   pub moved-typed : (r : Moved) (v : Val) → Is O.the-row r (v ∷ []) → T (hasTy O′.mir v) × WT v
   moved-typed r v is = LL.lawful O.the-type O′.the-laws 𝓤 H A W .typed r _ is .0

@@ -28,7 +28,7 @@ fn step_in(all: [Station; 16], step: Step) -> Moved
     ensures { λ r. ⌜ r ≡ movedBy (steppedBy step all freshRoom) ⌝ }
 {
     let mut stations = all;
-    let mut out = [0u8; 96];
+    let mut out = [0u8; 786];
     let answer = match step {
         Step::Startup(at) => list::startup(&mut stations, at, &mut out),
         Step::Shutdown(at) => list::shutdown(&mut stations, at, &mut out),

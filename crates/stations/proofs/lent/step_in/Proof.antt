@@ -139,7 +139,7 @@ use Rattle.stations.specs.declared.lent.Step.{Step}
 use Rattle.stations.specs.declared.lent.Step.the-variants.{Startup, Shutdown, Clock, Deliver, Pass}
 use Rattle.stations.specs.declared.lent.Moved.{Moved}
 use Rattle.stations.specs.List.{ListResult, LeavesList, startedAt, shutAt, clockedAt, passedAt, deliveredAt}
-use Rattle.stations.specs.Passing.{freshRoom}
+use Rattle.stations.specs.Passing.{roomBytes, freshRoom}
 use Rattle.stations.specs.Lent.{steppedBy, movedBy}
 use Rattle.stations.proofs.Lending.{lentAs, Again, lends, back}
 use Rattle.stations.proofs.Locals.{envOf, laid, frees-laid}
@@ -213,7 +213,7 @@ abbrev lending : ℕ → Name → List Opd → Body
 lending t callee numbers =
     with-stations t
     (sets (2 + t) (addrOf (place 4 []))
-    (sets (3 + t) (aggregate (of (2 + t) ∷ int w64 96 ∷ []))
+    (sets (3 + t) (aggregate (of (2 + t) ∷ int w64 roomBytes ∷ []))
     (call callee (of (1 + t) ∷ (numbers ++ of (3 + t) ∷ [])) (place 14 []))))
 
 -- what the proof knows of the functions that the arms call
@@ -266,7 +266,7 @@ module _ {M : Type 1} (𝓤 : URA M) (H : Heap 𝓤) (A : Atoms 𝓤) (W : Given
     abbrev Others : Step → List (Item 𝓤)
     Others d =
         laid 𝓤 (take 3 m.locals) ((l 0, []) ∷ (l 1, alls ys ∷ []) ∷ (l 2, stepVal d ∷ []) ∷ [])
-        (‵ (fdies (tyArray S′.mir 16) (l 3)) ∷ ‵ (fdies (tyArray (tyInt w8) 96) (l 4))
+        (‵ (fdies (tyArray S′.mir 16) (l 3)) ∷ ‵ (fdies (tyArray (tyInt w8) roomBytes) (l 4))
         ∷ laid 𝓤 (past 5 m.locals) (empty 5 29) [])
 
     -- the way out: the answer and the stations are returned
@@ -274,7 +274,7 @@ module _ {M : Type 1} (𝓤 : URA M) (H : Heap 𝓤) (A : Atoms 𝓤) (W : Given
         → Is Answers a (v ∷ []) → moved zs a ≡ movedBy (steppedBy d ys freshRoom)
         → Sq W
         (‵ (fat fullShare (tyArray S′.mir 16) (l 3) 0 (alls zs))
-        ∷ ‵ (fat fullShare (tyArray (tyInt w8) 96) (l 4) 0 rv) ∷ Others d)
+        ∷ ‵ (fat fullShare (tyArray (tyInt w8) roomBytes) (l 4) 0 rv) ∷ Others d)
         (settles E (place 14 []) v (Then d))
     leaves d a zs v rv is is-a e =
         -- [_3; _4; _0; …; _1; …; _2; …; what frees _3; what frees _4; _5; …]
@@ -302,7 +302,7 @@ module _ {M : Type 1} (𝓤 : URA M) (H : Heap 𝓤) (A : Atoms 𝓤) (W : Given
         → Sq W
         (‵ (finally u8 γ₁ us) ∷ ‵ ftrue ∷ ‵ (finally R γ zs)
         ∷ ((‵ (flft (ν ∷ []) fullShare) ⊛ ‵ (flft (ν₁ ∷ []) fullShare) ⊛ ‵ ftrue) ⊛ ‵ (Answers .own a (v ∷ [])))
-        ∷ ‵ (flent (ν ∷ []) (Held R 16 (l 3) 0 γ)) ∷ ‵ (flent (ν₁ ∷ []) (Held u8 96 (l 4) 0 γ₁)) ∷ Others d)
+        ∷ ‵ (flent (ν ∷ []) (Held R 16 (l 3) 0 γ)) ∷ ‵ (flent (ν₁ ∷ []) (Held u8 roomBytes (l 4) 0 γ₁)) ∷ Others d)
         (settles E (place 14 []) v (Then d))
     joined d a zs us ν ν₁ γ γ₁ v e =
         move ! (3 ∷ []) $ split ! $ split ! $ lft-end ! tt $
@@ -311,8 +311,8 @@ module _ {M : Type 1} (𝓤 : URA M) (H : Heap 𝓤) (A : Atoms 𝓤) (W : Given
         use3 W (later (Again 𝓤 H A W R 16 (l 3) (LL.vals S.the-type S′.the-laws) station-tells zs))
         (back 𝓤 H A W R 16 (l 3) (LL.vals S.the-type S′.the-laws) station-tells (ν ∷ []) γ zs) $
         await ! tt $ learn ! (λ is. move ! (1 ∷ []) $ split ! $ lft-end ! tt $ move ! (0 ∷ 6 ∷ 4 ∷ []) $
-        use3 W (later (Again 𝓤 H A W u8 96 (l 4) (uint-vals w8) (uint-tells w8) us))
-        (back 𝓤 H A W u8 96 (l 4) (uint-vals w8) (uint-tells w8) (ν₁ ∷ []) γ₁ us) $
+        use3 W (later (Again 𝓤 H A W u8 roomBytes (l 4) (uint-vals w8) (uint-tells w8) us))
+        (back 𝓤 H A W u8 roomBytes (l 4) (uint-vals w8) (uint-tells w8) (ν₁ ∷ []) γ₁ us) $
         await ! tt $ learn ! (λ _. move ! (3 ∷ []) $
         facts ! Answers (Is Answers) (shows 𝓤 H A Answers) a (v ∷ []) (λ is-a.
         move ! (1 ∷ []) $ drop ! $ move ! (2 ∷ []) $ drop ! $ move ! (1 ∷ 0 ∷ []) $
@@ -323,13 +323,13 @@ module _ {M : Type 1} (𝓤 : URA M) (H : Heap 𝓤) (A : Atoms 𝓤) (W : Given
     stationsVal = sliceVal (l 3, 0) 16
 
     abbrev roomVal : Val
-    roomVal = sliceVal (l 4, 0) 96
+    roomVal = sliceVal (l 4, 0) roomBytes
 
     abbrev Stations : ℕ → GName → Fml
     Stations ν γ = MutSlice (named 0) (ν ∷ []) R .own (lentAs 𝓤 H A W R 16 (l 3) γ ys) (stationsVal ∷ [])
 
     abbrev Zeros : ℕ → GName → Fml
-    Zeros ν γ = MutSlice (named 1) (ν ∷ []) u8 .own (lentAs 𝓤 H A W u8 96 (l 4) γ freshRoom) (roomVal ∷ [])
+    Zeros ν γ = MutSlice (named 1) (ν ∷ []) u8 .own (lentAs 𝓤 H A W u8 roomBytes (l 4) γ freshRoom) (roomVal ∷ [])
 
     lent-stations : {Γ : List (Item 𝓤)} {g : Goal 𝓤 H} → Soaks g
         → ((ν : ℕ) (γ : GName)
@@ -344,13 +344,13 @@ module _ {M : Type 1} (𝓤 : URA M) (H : Heap 𝓤) (A : Atoms 𝓤) (W : Given
     lent-both : {Γ : List (Item 𝓤)} {g : Goal 𝓤 H} → Soaks g
         → ((ν ν₁ : ℕ) (γ γ₁ : GName)
         → Sq W (‵ (flft (ν ∷ []) fullShare) ∷ ‵ (Stations ν γ) ∷ ‵ (flft (ν₁ ∷ []) fullShare) ∷ ‵ (Zeros ν₁ γ₁)
-        ∷ ‵ (flent (ν ∷ []) (Held R 16 (l 3) 0 γ)) ∷ ‵ (flent (ν₁ ∷ []) (Held u8 96 (l 4) 0 γ₁)) ∷ Γ) g)
+        ∷ ‵ (flent (ν ∷ []) (Held R 16 (l 3) 0 γ)) ∷ ‵ (flent (ν₁ ∷ []) (Held u8 roomBytes (l 4) 0 γ₁)) ∷ Γ) g)
         → Sq W (‵ (fat fullShare (tyArray S′.mir 16) (l 3) 0 (alls ys))
-        ∷ ‵ (fat fullShare (tyArray (tyInt w8) 96) (l 4) 0 zerosVal) ∷ Γ) g
+        ∷ ‵ (fat fullShare (tyArray (tyInt w8) roomBytes) (l 4) 0 zerosVal) ∷ Γ) g
     lent-both soaks k =
         lent-stations soaks (λ ν γ. lft-new ! soaks (λ ν₁. move ! (4 ∷ []) $
-        use1 W (later (some (λ (γ₁ : GName). ‵ (Zeros ν₁ γ₁) ⊛ ‵ (flent (ν₁ ∷ []) (Held u8 96 (l 4) 0 γ₁)))))
-        (lends 𝓤 H A W u8 96 (l 4) (uint-makes 𝓤 H A W w8) tt (lit< tt, lit< tt)
+        use1 W (later (some (λ (γ₁ : GName). ‵ (Zeros ν₁ γ₁) ⊛ ‵ (flent (ν₁ ∷ []) (Held u8 roomBytes (l 4) 0 γ₁)))))
+        (lends 𝓤 H A W u8 roomBytes (l 4) (uint-makes 𝓤 H A W w8) tt (lit< tt, lit< tt)
         (named 1) (ν₁ ∷ []) freshRoom zerosVal is-room) $
         await ! soaks $ pick ! (λ γ₁. split ! $ move ! (5 ∷ 3 ∷ 2 ∷ 0 ∷ 4 ∷ 1 ∷ []) $ k ν ν₁ γ γ₁)))
 
@@ -360,7 +360,7 @@ module _ {M : Type 1} (𝓤 : URA M) (H : Heap 𝓤) (A : Atoms 𝓤) (W : Given
       stations = lentAs 𝓤 H A W R 16 (l 3) γ ys
 
       abbrev room : RefT (List ℕ)
-      room = lentAs 𝓤 H A W u8 96 (l 4) γ₁ freshRoom
+      room = lentAs 𝓤 H A W u8 roomBytes (l 4) γ₁ freshRoom
 
       abbrev Lent : List (Item 𝓤)
       Lent = ‵ (flft (ν ∷ []) fullShare) ∷ ‵ (Stations ν γ) ∷ ‵ (flft (ν₁ ∷ []) fullShare) ∷ ‵ (Zeros ν₁ γ₁) ∷ []
@@ -369,7 +369,7 @@ module _ {M : Type 1} (𝓤 : URA M) (H : Heap 𝓤) (A : Atoms 𝓤) (W : Given
       Tokens = ‵ (flft (ν ∷ []) fullShare) ⊛ ‵ (flft (ν₁ ∷ []) fullShare) ⊛ ‵ ftrue
 
       abbrev Held′ : Step → List (Item 𝓤)
-      Held′ d = ‵ (flent (ν ∷ []) (Held R 16 (l 3) 0 γ)) ∷ ‵ (flent (ν₁ ∷ []) (Held u8 96 (l 4) 0 γ₁)) ∷ Others d
+      Held′ d = ‵ (flent (ν ∷ []) (Held R 16 (l 3) 0 γ)) ∷ ‵ (flent (ν₁ ∷ []) (Held u8 roomBytes (l 4) 0 γ₁)) ∷ Others d
 
       abbrev to-one : (f : One) (i : ℕ) → ByOne 𝓤 H A f .Ghost
       to-one f i = (
@@ -472,7 +472,7 @@ module _ {M : Type 1} (𝓤 : URA M) (H : Heap 𝓤) (A : Atoms 𝓤) (W : Given
       after-pass : (v : Val)
           → Sq W
           (raw (Passing .post to-pass v) ∷ ‵ (flent (ν ∷ []) (Held R 16 (l 3) 0 γ))
-          ∷ ‵ (fat fullShare (tyArray (tyInt w8) 96) (l 4) 0 zerosVal) ∷ Others (Pass i k))
+          ∷ ‵ (fat fullShare (tyArray (tyInt w8) roomBytes) (l 4) 0 zerosVal) ∷ Others (Pass i k))
           (settles E (place 14 []) v (Then (Pass i k)))
       after-pass v =
           use1 W (later (some (λ (a : Answered). ((‵ (flft (ν ∷ []) fullShare) ⊛ ‵ ftrue) ⊛ ‵ (Answers .own a (v ∷ [])))
@@ -666,7 +666,7 @@ module _ {M : Type 1} (𝓤 : URA M) (H : Heap 𝓤) (A : Atoms 𝓤) (W : Given
       4 ∷ 5 ∷ 2 ∷ 3 ∷ 0 ∷ 1 ∷ []) $
       assigns ! (of-opd ! (load ! (from ! (stop !)) (look ! 2 refl))) (from ! (stop !))
       (init ! 6 refl (all-typed 𝓤 H A W ys is-all)) $
-      assigns ! (rep ! 96 (lit ! tt)) (from ! (stop !)) (init ! 8 refl (room-typed 𝓤 H A W)) $
+      assigns ! (rep ! roomBytes (lit ! tt)) (from ! (stop !)) (init ! 8 refl (room-typed 𝓤 H A W)) $
       first ! $ matched C Λ fm
       (λ j. getD (l₀ ∷ l₁ ∷ l₂ ∷ l₃ ∷ l₄ ∷ l₅ ∷ l₆ ∷ l₇ ∷ l₈ ∷ l₉ ∷ l₁₀ ∷ l₁₁ ∷ l₁₂ ∷ l₁₃ ∷
       l₁₄ ∷ l₁₅ ∷ l₁₆ ∷ l₁₇ ∷ l₁₈ ∷ l₁₉ ∷ l₂₀ ∷ l₂₁ ∷ l₂₂ ∷ l₂₃ ∷ l₂₄ ∷ l₂₅ ∷ l₂₆ ∷ l₂₇ ∷ l₂₈ ∷ l₂₉ ∷ l₃₀ ∷ l₃₁ ∷

@@ -1,61 +1,82 @@
--- `passing::pass` meets its contract.
+-- `passing::pass` meets its contract: the frame stays, or the advertisement is written.
 -- Assumes nothing.
+use mathlib.Core.Path.{_≡_, sym, ap, _∙_}
+use Prim.Native.Nat.{ℕ, _+_}
+use mathlib.Core.Logic.{⊎-elim}
+use native.Mathlib.Omega.{arith}
 use borrow.Author.Needs.{needs}
-use Rattle.stations.specs.Passing.{freshRoom}
-use Rattle.stations.proofs.Firing.{pass-once, pass-stuck, pass-more, rest-below}
+use lib.ListN.{length}
+use Rattle.stations.proofs.Arrays.{array-long, part-is-list, list-length}
+use Rattle.stations.proofs.Firing.{passed-silent, passed-due}
 use Rattle.stations.proofs.passing.pass.Statement.{statement}
 use Rattle.stations.proofs.passing.pass.Tie as tie
 
-slice-aggregate-clock : tie.Need-slice-aggregate-clock
-slice-aggregate-clock c = search needs
+due-requires : tie.Need-due-requires
+due-requires c κs = search needs
 
-clock-requires : tie.Need-clock-requires
-clock-requires c κs = search needs
+list-bytes-requires : tie.Need-list-bytes-requires
+list-bytes-requires c κs = search needs
 
-leftover-of-requires : tie.Need-leftover-of-requires
-leftover-of-requires c κs = search needs
+sub-put-advertisement : tie.Need-sub-put-advertisement
+sub-put-advertisement c = search needs
+
+part-put-advertisement-start : tie.Need-part-put-advertisement-start
+part-put-advertisement-start c = search needs
+
+part-put-advertisement-end : tie.Need-part-put-advertisement-end
+part-put-advertisement-end c =
+    let start = c .before .before .before .before .before .before .before .before in
+    let long : length (start .args .s .addresses) ≡ 64 =
+    array-long (start .args .s .addresses) 64 (start .good .0 .1 .1 .1 .1 .1 .0 .1 .0 .1) in
+    search needs
+
+slice-aggregate-put-advertisement : tie.Need-slice-aggregate-put-advertisement
+slice-aggregate-put-advertisement c = search needs
+
+put-advertisement-requires : tie.Need-put-advertisement-requires
+put-advertisement-requires c κs =
+    let at-bytes = c .before .before .before in
+    let start = at-bytes .before .before .before .before .before .before .before in
+    let s = start .args .s in
+    let long : length (s .addresses) ≡ 64 = array-long (s .addresses) 64 (start .good .0 .1 .1 .1 .1 .1 .0 .1 .0 .1) in
+    let room : length (s .frame) ≡ 114 = array-long (s .frame) 114 (start .good .0 .1 .1 .1 .1 .1 .1 .0 .1 .0 .1) in
+    let part = part-is-list s _ (at-bytes .list-bytes .ensures .0) in
+    let bytes = ap length part ∙ list-length s long in
+    omega arith
+
+add-sent : tie.Need-add-sent
+add-sent c = search needs
+
+elapsed-requires : tie.Need-elapsed-requires
+elapsed-requires c κs = search needs
 
 returns : tie.Need-returns
-unfolding freshRoom
 returns c =
-    let at-leftover = c .before in
-    let at-clock = at-leftover .before .before .before in
-    let a = at-clock .before .before .args in
-    pass-once (a .s) (a .ticks) _ _ _ (at-clock .clock .ensures) (at-leftover .leftover-of .ensures) (c .if1 .taken)
-
-returns-2 : tie.Need-returns-2
-unfolding freshRoom
-returns-2 c =
-    let at-leftover = c .before .before .before in
-    let at-clock = at-leftover .before .before .before in
-    let a = at-clock .before .before .args in
-    pass-stuck (a .s) (a .ticks) _ _ _ (at-clock .clock .ensures) (at-leftover .leftover-of .ensures)
-    (c .before .before .if1 .left) (c .if2 .taken)
-
-rem-own : tie.Need-rem-own
-rem-own c = search needs
-
-sub-own : tie.Need-sub-own
-sub-own c = rest-below _ _ (c .if2 .left)
-
-returns-3 : tie.Need-returns-3
-unfolding freshRoom
-returns-3 c =
-    let at-leftover = c .before .before .before in
-    let at-clock = at-leftover .before .before .before in
-    let a = at-clock .before .before .args in
-    pass-more (a .s) (a .ticks) _ _ _ (at-clock .clock .ensures) (at-leftover .leftover-of .ensures)
-    (c .before .before .if1 .left) (c .if2 .left)
+    let at-due = c .before .before in
+    let start = at-due .before .before .before .before .before in
+    let s = start .args .s in
+    let ticks = start .args .ticks in
+    let long : length (s .addresses) ≡ 64 = array-long (s .addresses) 64 (start .good .0 .1 .1 .1 .1 .1 .0 .1 .0 .1) in
+    ⊎-elim
+    (λ w.
+    let part = part-is-list s _ (w .1 .ensures .0) in
+    passed-due s long ticks _ _ _ (c .elapsed .ensures) (sym (at-due .due .ensures) ∙ w .0 .taken)
+    (w .7 ∙ w .5 .ensures ∙ rw part) (w .8 ∙ ap (λ (n : ℕ). 50 + n) (w .1 .ensures .0)))
+    (λ w.
+    passed-silent s long ticks _ _ _ (c .elapsed .ensures) (sym (at-due .due .ensures) ∙ w .0 .left) (w .1) (w .2))
+    (c .before .if1 .came)
 
 pub pass-spec : {M : Type 1} → statement M
 pass-spec =
     tie.close
     (tie.spec
-    slice-aggregate-clock
-    clock-requires
-    leftover-of-requires
-    returns
-    returns-2
-    rem-own
-    sub-own
-    returns-3)
+    due-requires
+    list-bytes-requires
+    sub-put-advertisement
+    part-put-advertisement-start
+    part-put-advertisement-end
+    slice-aggregate-put-advertisement
+    put-advertisement-requires
+    add-sent
+    elapsed-requires
+    returns)
