@@ -54,7 +54,7 @@ counts-of-other Backup counts n = absurd (n refl)
 counts-of-other Master counts n = refl
 
 -- the advertisement of a station
-abbrev pub ownFrame : Station → List ℕ
+abbrev ownFrame : Station → List ℕ
 ownFrame s = frameOf (s .router .vrid) (s .router .priority) (s .router .interval) (s .primary) (listOf s)
 
 -- the station with another timer

@@ -1,11 +1,11 @@
 -- One step on a copy of the stations (01, 'The rehearsal program').
 use Prim.Native.Nat.{ℕ}
-use mathlib.Core.List.{List, []}
+use mathlib.Core.List.{List}
 use Rattle.stations.specs.declared.station.Station.{Station}
 use Rattle.stations.specs.declared.lent.Step.{Step}
-use Rattle.stations.specs.declared.lent.Step.the-variants.{Startup, Shutdown, Clock, Deliver, Pass}
+use Rattle.stations.specs.declared.lent.Step.the-variants.{Startup, Shutdown, Clock, Deliver}
 use Rattle.stations.specs.declared.lent.Moved.{Moved}
-use Rattle.stations.specs.List.{ListResult, startedAt, shutAt, clockedAt, passedAt, deliveredAt}
+use Rattle.stations.specs.List.{ListResult, startedAt, shutAt, clockedAt, deliveredAt}
 
 -- what a step leaves of the stations and of the room
 abbrev pub steppedBy : Step → List Station → List ℕ → ListResult
@@ -13,7 +13,6 @@ steppedBy (Startup at) stations room = startedAt stations at room
 steppedBy (Shutdown at) stations room = shutAt stations at room
 steppedBy (Clock at ticks) stations room = clockedAt stations at ticks room
 steppedBy (Deliver from to) stations room = deliveredAt stations from to room
-steppedBy (Pass at ticks) stations room = passedAt stations at ticks []
 
 -- the stations and the answer; the room is given up
 abbrev pub movedBy : ListResult → Moved

@@ -9,7 +9,7 @@ use Rattle.router.specs.declared.step.Event.the-variants.{Startup, Shutdown}
 use Rattle.wire.specs.Check.{Check, firstRefusal}
 use Rattle.table.specs.Configuring.{freed}
 use Rattle.table.specs.declared.answer.Answered.{Answered}
-use Rattle.table.specs.declared.answer.Answered.the-variants.{Done, Refused}
+use Rattle.table.specs.declared.answer.Answered.the-variants.{Refused}
 use Rattle.stations.specs.declared.station.Station.{Station}
 use Rattle.stations.specs.Station.{Result, stationOf}
 use Rattle.stations.specs.Steps.{happenedTo, clockedBy, deliveredTo}
@@ -56,11 +56,6 @@ shutAt = steppedAt (λ s room. happenedTo s Shutdown room)
 -- "5 clock" of one station
 abbrev pub clockedAt : List Station → ℕ → ℕ → List ℕ → ListResult
 clockedAt stations at ticks room = steppedAt (λ s room. clockedBy s ticks room) stations at room
-
--- "5 clock .. each firing as often as due" of one station: nothing is left over
-abbrev pub passedAt : List Station → ℕ → ℕ → List ℕ → ListResult
-passedAt stations at ticks room =
-    steppedAt (λ s room. record { answer = Done 0 0; station = passed s ticks; room = room }) stations at room
 
 -- "5 clock ..: all stations in number order, each firing as often as due": those that are used, which come first
 unfoldable pub allPassed : ℕ → ℕ → List Station → List Station

@@ -3,10 +3,9 @@ use crate::list;
 use crate::station::Station;
 use table::answer::Answered;
 ghost use mathlib.Core.Path.{_≡_};
-ghost use mathlib.Core.List.{[]};
 ghost use Rattle.stations.specs.Lent.{movedBy, steppedBy};
 ghost use Rattle.stations.specs.Passing.{freshRoom};
-ghost use Rattle.stations.specs.List.{startedAt, shutAt, clockedAt, passedAt, allPassed, deliveredAt};
+ghost use Rattle.stations.specs.List.{startedAt, shutAt, clockedAt, allPassed, deliveredAt};
 
 // A step, and the numbers of the stations that it is for.
 pub enum Step {
@@ -14,7 +13,6 @@ pub enum Step {
     Shutdown(usize),
     Clock(usize, u32),
     Deliver(usize, usize),
-    Pass(usize, u32),
 }
 
 // What a step leaves: all stations, and its answer.
@@ -34,7 +32,6 @@ fn step_in(all: [Station; 16], step: Step) -> Moved
         Step::Shutdown(at) => list::shutdown(&mut stations, at, &mut out),
         Step::Clock(at, ticks) => list::clock(&mut stations, at, ticks, &mut out),
         Step::Deliver(from, to) => list::deliver(&mut stations, from, to, &mut out),
-        Step::Pass(at, ticks) => list::pass(&mut stations, at, ticks),
     };
     Moved { stations, answer }
 }
@@ -65,13 +62,6 @@ pub fn deliver_in(all: [Station; 16], from: usize, to: usize) -> Moved
     ensures { λ r. ⌜ r ≡ movedBy (deliveredAt all from to freshRoom) ⌝ }
 {
     step_in(all, Step::Deliver(from, to))
-}
-
-// Lets so many ticks pass at the station of a number, which fires as often as due; refuses as `list::pass` does.
-pub fn pass_in(all: [Station; 16], at: usize, ticks: u32) -> Moved
-    ensures { λ r. ⌜ r ≡ movedBy (passedAt all at ticks []) ⌝ }
-{
-    step_in(all, Step::Pass(at, ticks))
 }
 
 // Lets so many ticks pass at the first stations, as many as are used; the stations are copied once for all of them.

@@ -4,9 +4,8 @@ use crate::station::Station;
 use crate::steps;
 use table::answer::Answered;
 ghost use mathlib.Core.Path.{_≡_};
-ghost use mathlib.Core.List.{[]};
 ghost use Prim.Native.Nat.{min};
-ghost use Rattle.stations.specs.List.{LeavesList, startedAt, shutAt, clockedAt, passedAt, allPassed};
+ghost use Rattle.stations.specs.List.{LeavesList, startedAt, shutAt, clockedAt, allPassed};
 ghost use Rattle.stations.specs.List.{deliveryRefusal, deliveredAt};
 
 // Starts up the station of a number; refuses by 26 and by what starting it up refuses.
@@ -55,19 +54,6 @@ pub fn clock(stations: &mut [Station], at: usize, ticks: u32, out: &mut [u8]) ->
     let after = stepped.station;
     stations[at] = after;
     stepped.answer
-}
-
-// Lets so many ticks pass at the station of a number, which fires as often as due; refuses by 26.
-pub fn pass(stations: &mut [Station], at: usize, ticks: u32) -> Answered
-    ensures { λ r. ⌜ LeavesList (passedAt (now (stations .entry)) at ticks []) r (now (stations .exit)) [] ⌝ }
-{
-    if at >= stations.len() {
-        return Answered::Refused(26);
-    }
-    let before = stations[at];
-    let after = passing::pass(before, ticks);
-    stations[at] = after;
-    Answered::Done(0, 0)
 }
 
 // The lesser of two numbers.

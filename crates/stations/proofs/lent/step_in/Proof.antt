@@ -115,7 +115,7 @@ use denote.RattleType.{owns}
 use denote.Laws.{Is, shows}
 use denote.Plain.{UInt, uint-vals, uint-tells, uint-makes}
 use denote.Array.{array-vals, array-tells}
-use denote.Builtin.{u8, u32, usize, ArrayOf}
+use denote.Builtin.{u8, usize, ArrayOf}
 use denote.Ref.{RefT}
 use denote.Slice.{sliceVal, MutSlice, finally}
 use denote.Lend.{Held}
@@ -125,7 +125,7 @@ use denote.Struct.Laws as LL
 use denote.Enum.Laws as EL
 use denote.Triple.Entry.{onEntry}
 use denote.Triple.Spec.{Meets, tripleOf}
-use denote.Triple.Statement.{Contract, Triple}
+use denote.Triple.Statement.{Triple}
 use denote.Triple.Call.{calls-at-last}
 use denote.Triple.Clauses.{ensured, lasts}
 use denote.Triple.Table.{entered, cited}
@@ -136,9 +136,9 @@ use Rattle.table.proofs.answer.Answered as N
 use Rattle.table.proofs.answer.Answered.Laws as N′
 use Rattle.stations.specs.declared.station.Station.{Station}
 use Rattle.stations.specs.declared.lent.Step.{Step}
-use Rattle.stations.specs.declared.lent.Step.the-variants.{Startup, Shutdown, Clock, Deliver, Pass}
+use Rattle.stations.specs.declared.lent.Step.the-variants.{Startup, Shutdown, Clock, Deliver}
 use Rattle.stations.specs.declared.lent.Moved.{Moved}
-use Rattle.stations.specs.List.{ListResult, LeavesList, startedAt, shutAt, clockedAt, passedAt, deliveredAt}
+use Rattle.stations.specs.List.{ListResult, LeavesList, startedAt, shutAt, clockedAt, deliveredAt}
 use Rattle.stations.specs.Passing.{roomBytes, freshRoom}
 use Rattle.stations.specs.Lent.{steppedBy, movedBy}
 use Rattle.stations.proofs.Lending.{lentAs, Again, lends, back}
@@ -180,10 +180,6 @@ use Rattle.stations.proofs.list.clock.Met as clock-thm
 use Rattle.stations.proofs.list.deliver.Symbol as deliver-def
 use Rattle.stations.proofs.list.deliver.Symbol.{name as #deliver}
 use Rattle.stations.proofs.list.deliver.Met as deliver-thm
-use Rattle.stations.proofs.list.pass as pass
-use Rattle.stations.proofs.list.pass.Symbol as pass-def
-use Rattle.stations.proofs.list.pass.Symbol.{name as #pass}
-use Rattle.stations.proofs.list.pass.Met as pass-thm
 use Rattle.stations.proofs.lent.step_in.Key.{name as #here}
 use Rattle.stations.proofs.lent.step_in as here
 use Rattle.stations.proofs.lent.step_in.Statement as stated
@@ -196,7 +192,7 @@ slot = ArrayOf (plain (λ _. R)) (λ _. tt) 16
 abbrev stayed : Stays (here.ended .signature .params) (here.ended .kept)
 stayed = (stay-dropped slot yes, (stay-dropped (plain (λ _. G.the-row)) yes, tt))
 
--- an arm: its numbers are read, the stations and, but for the last, the room are lent, and the call is made
+-- an arm: its numbers are read, the stations and the room are lent, and the call is made
 abbrev of : ℕ → Opd
 of j = copy (place j [])
 
@@ -206,30 +202,23 @@ sets j rv rest = seq (assign (place j []) rv) rest
 abbrev number : ℕ → ℕ → ℕ → Body → Body
 number k n j rest = sets j (rvOpd (copy (place 2 (variant k ∷ field n ∷ [])))) rest
 
-abbrev with-stations : ℕ → Body → Body
-with-stations t rest = sets t (addrOf (place 3 [])) (sets (1 + t) (aggregate (of t ∷ int w64 16 ∷ [])) rest)
-
 abbrev lending : ℕ → Name → List Opd → Body
 lending t callee numbers =
-    with-stations t
+    sets t (addrOf (place 3 []))
+    (sets (1 + t) (aggregate (of t ∷ int w64 16 ∷ []))
     (sets (2 + t) (addrOf (place 4 []))
     (sets (3 + t) (aggregate (of (2 + t) ∷ int w64 roomBytes ∷ []))
-    (call callee (of (1 + t) ∷ (numbers ++ of (3 + t) ∷ [])) (place 14 []))))
+    (call callee (of (1 + t) ∷ (numbers ++ of (3 + t) ∷ [])) (place 12 [])))))
 
 -- what the proof knows of the functions that the arms call
-record Known {M : Type 1} (𝓤 : URA M) (H : Heap 𝓤) (A : Atoms 𝓤) (mem : Memory → SProp 𝓤) (run : Routine → Fun 𝓤)
-    (C : Calls 𝓤 H) : Type 1 where
+record Known {M : Type 1} (𝓤 : URA M) (H : Heap 𝓤) (A : Atoms 𝓤) (C : Calls 𝓤 H) : Type 1 where
   up : Triple 𝓤 (C #startup) (ByOne 𝓤 H A startedAt)
   down : Triple 𝓤 (C #shutdown) (ByOne 𝓤 H A shutAt)
   ticked : Triple 𝓤 (C #clock) (ByTwo 𝓤 H A w32 clockedAt)
   handed : Triple 𝓤 (C #deliver) (ByTwo 𝓤 H A w64 deliveredAt)
-  over : Triple 𝓤 (C #pass) (tripleOf 𝓤 H A pass.signature (pass.spec 𝓤 H A mem run))
 
 module _ {M : Type 1} (𝓤 : URA M) (H : Heap 𝓤) (A : Atoms 𝓤) (W : Given 𝓤 H A) (mem : Memory → SProp 𝓤)
     (run : Routine → Fun 𝓤) (ys : List Station) (is-all : Is All ys (alls ys ∷ [])) where
-  abbrev Passing : Contract 𝓤
-  Passing = tripleOf 𝓤 H A pass.signature (pass.spec 𝓤 H A mem run)
-
   abbrev Post : Step → Val → SProp 𝓤
   Post d =
       walkOf 𝓤 H A here.ended stayed (here.clauses 𝓤 H A mem run) .post
@@ -252,7 +241,7 @@ module _ {M : Type 1} (𝓤 : URA M) (H : Heap 𝓤) (A : Atoms 𝓤) (W : Given
     places j (suc n) = l j ∷ places (suc j) n
 
     abbrev E : Env 𝓤 H
-    E = envOf 𝓤 H m.locals (places 0 34)
+    E = envOf 𝓤 H m.locals (places 0 30)
 
     abbrev empty : ℕ → ℕ → List (ℕ × List Val)
     empty j zero = []
@@ -267,7 +256,7 @@ module _ {M : Type 1} (𝓤 : URA M) (H : Heap 𝓤) (A : Atoms 𝓤) (W : Given
     Others d =
         laid 𝓤 (take 3 m.locals) ((l 0, []) ∷ (l 1, alls ys ∷ []) ∷ (l 2, stepVal d ∷ []) ∷ [])
         (‵ (fdies (tyArray S′.mir 16) (l 3)) ∷ ‵ (fdies (tyArray (tyInt w8) roomBytes) (l 4))
-        ∷ laid 𝓤 (past 5 m.locals) (empty 5 29) [])
+        ∷ laid 𝓤 (past 5 m.locals) (empty 5 25) [])
 
     -- the way out: the answer and the stations are returned
     leaves : (d : Step) (a : Answered) (zs : List Station) (v rv : Val) → Is All zs (alls zs ∷ [])
@@ -275,25 +264,25 @@ module _ {M : Type 1} (𝓤 : URA M) (H : Heap 𝓤) (A : Atoms 𝓤) (W : Given
         → Sq W
         (‵ (fat fullShare (tyArray S′.mir 16) (l 3) 0 (alls zs))
         ∷ ‵ (fat fullShare (tyArray (tyInt w8) roomBytes) (l 4) 0 rv) ∷ Others d)
-        (settles E (place 14 []) v (Then d))
+        (settles E (place 12 []) v (Then d))
     leaves d a zs v rv is is-a e =
         -- [_3; _4; _0; …; _1; …; _2; …; what frees _3; what frees _4; _5; …]
         land-last ! (from ! (stop !))
-        (init ! 28 refl (EL.lawful N.the-type N′.the-laws 𝓤 H A W tt .typed a _ is-a .0)) $
-        rewrite ! 28 (λ (u : Val). ‵ (fat fullShare N′.mir (l 14) 0 u)) (ap only (answer-tells a _ is-a)) refl $
+        (init ! 24 refl (EL.lawful N.the-type N′.the-laws 𝓤 H A W tt .typed a _ is-a .0)) $
+        rewrite ! 24 (λ (u : Val). ‵ (fat fullShare N′.mir (l 12) 0 u)) (ap only (answer-tells a _ is-a)) refl $
         exec ! C Λ E m.t-4 (atRet E (Post d)) $
-        assigns ! (of-opd ! (load ! (from ! (stop !)) (look ! 28 refl))) (from ! (stop !))
+        assigns ! (of-opd ! (load ! (from ! (stop !)) (look ! 24 refl))) (from ! (stop !))
         (init ! 10 refl (answer-typed 𝓤 H A W a (told-is a v is-a))) $
         assigns ! (of-opd ! (load ! (from ! (stop !)) (look ! 0 refl))) (from ! (stop !))
-        (init ! 66 refl (all-typed 𝓤 H A W zs is)) $
-        assigns ! (agg ! (and-then ! (load ! (from ! (stop !)) (look ! 66 refl))
+        (init ! 58 refl (all-typed 𝓤 H A W zs is)) $
+        assigns ! (agg ! (and-then ! (load ! (from ! (stop !)) (look ! 58 refl))
         (and-then ! (load ! (from ! (stop !)) (look ! 10 refl)) (no-more !)))) (from ! (stop !))
         (init ! 2 refl (moved-typed 𝓤 H A W (moved zs a) _ (is-moved zs a is (told-is a v is-a)))) $
         returns ! (look ! 2 refl) $
         move ! (2 ∷ 3 ∷ 4 ∷ 5 ∷ 6 ∷ 7 ∷ 0 ∷ 8 ∷ 1 ∷ 9 ∷ []) $
         frees-laid ! m.locals
         ((l 0, movedVal zs a ∷ []) ∷ (l 1, alls ys ∷ []) ∷ (l 2, stepVal d ∷ []) ∷ (l 3, alls zs ∷ []) ∷ (l 4, rv ∷ [])
-        ∷ (l 5, told a ∷ []) ∷ (empty 6 8 ++ (l 14, told a ∷ []) ∷ (empty 15 18 ++ (l 33, alls zs ∷ []) ∷ [])))
+        ∷ (l 5, told a ∷ []) ∷ (empty 6 6 ++ (l 12, told a ∷ []) ∷ (empty 13 16 ++ (l 29, alls zs ∷ []) ∷ [])))
         (by ! (exits d (moved zs a) _ (is-moved zs a is (told-is a v is-a)) e))
 
     -- the stations and the room come back
@@ -303,7 +292,7 @@ module _ {M : Type 1} (𝓤 : URA M) (H : Heap 𝓤) (A : Atoms 𝓤) (W : Given
         (‵ (finally u8 γ₁ us) ∷ ‵ ftrue ∷ ‵ (finally R γ zs)
         ∷ ((‵ (flft (ν ∷ []) fullShare) ⊛ ‵ (flft (ν₁ ∷ []) fullShare) ⊛ ‵ ftrue) ⊛ ‵ (Answers .own a (v ∷ [])))
         ∷ ‵ (flent (ν ∷ []) (Held R 16 (l 3) 0 γ)) ∷ ‵ (flent (ν₁ ∷ []) (Held u8 roomBytes (l 4) 0 γ₁)) ∷ Others d)
-        (settles E (place 14 []) v (Then d))
+        (settles E (place 12 []) v (Then d))
     joined d a zs us ν ν₁ γ γ₁ v e =
         move ! (3 ∷ []) $ split ! $ split ! $ lft-end ! tt $
         -- [κ₀ is over; κ₁; what the answer owns; the room's last list; true; the stations'; the lenders' parts; …]
@@ -414,7 +403,7 @@ module _ {M : Type 1} (𝓤 : URA M) (H : Heap 𝓤) (A : Atoms 𝓤) (W : Given
           nothing ! $ move ! (3 ∷ 0 ∷ []) $ join ! $ move ! (2 ∷ 0 ∷ []) $ join ! $ join ! $ frame ! $ done !
 
       after-one : (f : One) (i : ℕ) (d : Step) (v : Val) → f ys i freshRoom ≡ steppedBy d ys freshRoom
-          → Sq W (raw (ByOne 𝓤 H A f .post (to-one f i) v) ∷ Held′ d) (settles E (place 14 []) v (Then d))
+          → Sq W (raw (ByOne 𝓤 H A f .post (to-one f i) v) ∷ Held′ d) (settles E (place 12 []) v (Then d))
       after-one f i d v same =
           use1 W (later (some (λ (a : Answered). (Tokens ⊛ ‵ (Answers .own a (v ∷ [])))
           ⊛ raw (ensured 𝓤 H A startup.ended (one 𝓤 H A f) (ν ∷ [], (ν₁ ∷ [], tt)) (to-one f i .0 .3) tt a))))
@@ -431,7 +420,7 @@ module _ {M : Type 1} (𝓤 : URA M) (H : Heap 𝓤) (A : Atoms 𝓤) (W : Given
           (subst (λ (result : ListResult). LeavesList result a (ls .0) (ls .1 .1 .0)) same e))))))
 
       after-two : (w : Width) (f : Two) (i k : ℕ) (d : Step) (v : Val) → f ys i k freshRoom ≡ steppedBy d ys freshRoom
-          → Sq W (raw (ByTwo 𝓤 H A w f .post (to-two w f i k) v) ∷ Held′ d) (settles E (place 14 []) v (Then d))
+          → Sq W (raw (ByTwo 𝓤 H A w f .post (to-two w f i k) v) ∷ Held′ d) (settles E (place 12 []) v (Then d))
       after-two w f i k d v same =
           use1 W (later (some (λ (a : Answered). (Tokens ⊛ ‵ (Answers .own a (v ∷ [])))
           ⊛ raw (ensured 𝓤 H A (with-two w) (two 𝓤 H A w f) (ν ∷ [], (ν₁ ∷ [], tt)) (to-two w f i k .0 .3) tt a))))
@@ -447,53 +436,7 @@ module _ {M : Type 1} (𝓤 : URA M) (H : Heap 𝓤) (A : Atoms 𝓤) (W : Given
           joined d a (ls .0) (ls .1 .1 .1 .0) ν ν₁ γ γ₁ v
           (subst (λ (result : ListResult). LeavesList result a (ls .0) (ls .1 .1 .1 .0)) same e))))))
 
-    -- the same of the call that has no room
-    module _ (ν : ℕ) (γ : GName) (i k : ℕ) where
-      abbrev to-pass : Passing .Ghost
-      to-pass = (
-        (
-          (ν ∷ [], tt),
-          (fullShare, tt),
-          tt,
-          (lentAs 𝓤 H A W R 16 (l 3) γ ys, (i, (k, tt))),
-          (stationsVal ∷ [], (vint w64 i ∷ [], (vint w32 k ∷ [], tt))),
-        ),
-        tt,
-      )
-
-      goes-pass : i < 2 ^ 64 → k < 2 ^ 32
-          → ent 𝓤 (⋆ 𝓤 H A (‵ (flft (ν ∷ []) fullShare) ∷ ‵ (Stations ν γ) ∷ [])) (Passing .pre to-pass)
-      goes-pass gi gk =
-          qed W (‵ (flft (ν ∷ []) fullShare) ∷ ‵ (Stations ν γ) ∷ []) ∵
-          nothing ! $ owned ! u32 (Is u32) (uint-makes 𝓤 H A W w32) k _ (refl, gk) $ fjoin ! $
-          owned ! usize (Is usize) (uint-makes 𝓤 H A W w64) i _ (refl, gi) $ fjoin ! $
-          move ! (2 ∷ 0 ∷ []) $ fjoin ! $ nothing ! $ move ! (2 ∷ 0 ∷ []) $ join ! $ join ! $ frame ! $ done !
-
-      after-pass : (v : Val)
-          → Sq W
-          (raw (Passing .post to-pass v) ∷ ‵ (flent (ν ∷ []) (Held R 16 (l 3) 0 γ))
-          ∷ ‵ (fat fullShare (tyArray (tyInt w8) roomBytes) (l 4) 0 zerosVal) ∷ Others (Pass i k))
-          (settles E (place 14 []) v (Then (Pass i k)))
-      after-pass v =
-          use1 W (later (some (λ (a : Answered). ((‵ (flft (ν ∷ []) fullShare) ⊛ ‵ ftrue) ⊛ ‵ (Answers .own a (v ∷ [])))
-          ⊛ raw (ensured 𝓤 H A pass.ended (pass.clauses 𝓤 H A mem run) (ν ∷ [], tt) (to-pass .0 .3) tt a))))
-          (id⊢ 𝓤 _) $
-          await ! tt $ pick ! (λ a. split ! $ move ! (1 ∷ []) $
-          use1 W (some (λ (ls : List Station × (Unit {0} × (Unit {0} × Unit {0}))).
-          ‵ (lasts pass.ended (ν ∷ [], tt) (to-pass .0 .3) ls)
-          ⊛ raw (fact 𝓤 (LeavesList (passedAt ys i k []) a (ls .0) [])))) (id⊢ 𝓤 _) $
-          pick ! (λ ls. split ! $ move ! (1 ∷ []) $
-          heard ! (LeavesList (passedAt ys i k []) a (ls .0) []) (λ e.
-          fsplit ! $ fsplit ! $ move ! (1 ∷ []) $ feqL ! (λ _. move ! (1 ∷ []) $ drop ! $
-          move ! (1 ∷ []) $ split ! $ split ! $ lft-end ! tt $ move ! (0 ∷ 4 ∷ 3 ∷ []) $
-          use3 W (later (Again 𝓤 H A W R 16 (l 3) (LL.vals S.the-type S′.the-laws) station-tells (ls .0)))
-          (back 𝓤 H A W R 16 (l 3) (LL.vals S.the-type S′.the-laws) station-tells (ν ∷ []) γ (ls .0)) $
-          await ! tt $ learn ! (λ is. move ! (2 ∷ []) $
-          facts ! Answers (Is Answers) (shows 𝓤 H A Answers) a (v ∷ []) (λ is-a.
-          move ! (1 ∷ []) $ drop ! $
-          leaves (Pass i k) a (ls .0) v zerosVal is is-a (moves _ a (ls .0) [] e)))))))
-
-    module _ (known : Known 𝓤 H A mem run C) where
+    module _ (known : Known 𝓤 H A C) where
       -- the match, by cases on the step
       abbrev Matched : Step → Type 1
       Matched d =
@@ -501,53 +444,53 @@ module _ {M : Type 1} (𝓤 : URA M) (H : Heap 𝓤) (A : Atoms 𝓤) (W : Given
           → Sq W
           (laid 𝓤 m.locals
           ((l 0, []) ∷ (l 1, alls ys ∷ []) ∷ (l 2, stepVal d ∷ []) ∷ (l 3, alls ys ∷ []) ∷ (l 4, zerosVal ∷ [])
-          ∷ empty 5 29) [])
+          ∷ empty 5 25) [])
           (runs C Λ E m.s-3 (Then d))
 
       at-startup : (i : ℕ) → Matched (Startup i)
       at-startup i g =
           let gi : i < 2 ^ 64 = EL.owed G.the-type G′.the-laws (Startup i) _ g .0 .1 in
           switches-on ! (load ! (from ! (vrt ! refl (fld ! refl (stop !)))) (look-tag ! 4 (whole !))) $
-          exec ! C Λ E (number 0 1 6 (lending 15 #startup (of 6 ∷ []))) (Then (Startup i)) $
+          exec ! C Λ E (number 0 1 6 (lending 13 #startup (of 6 ∷ []))) (Then (Startup i)) $
           assigns ! (of-opd ! (load ! (from ! (vrt ! refl (fld ! refl (stop !))))
           (look-in ! 4 (in-variant ! 0 0 refl refl (whole !))))) (from ! (stop !))
           (init ! 12 refl (tt, record { fits = gi })) $
+          assigns ! (addr ! (from ! (stop !))) (from ! (stop !)) (init ! 26 refl (tt, tt)) $
+          assigns ! (agg ! (and-then ! (load ! (from ! (stop !)) (look ! 26 refl)) (and-then ! (lit ! tt) (no-more !))))
+          (from ! (stop !)) (init ! 28 refl (tt, (tt, (record { fits = lit< tt }, tt)))) $
           assigns ! (addr ! (from ! (stop !))) (from ! (stop !)) (init ! 30 refl (tt, tt)) $
           assigns ! (agg ! (and-then ! (load ! (from ! (stop !)) (look ! 30 refl)) (and-then ! (lit ! tt) (no-more !))))
           (from ! (stop !)) (init ! 32 refl (tt, (tt, (record { fits = lit< tt }, tt)))) $
-          assigns ! (addr ! (from ! (stop !))) (from ! (stop !)) (init ! 34 refl (tt, tt)) $
-          assigns ! (agg ! (and-then ! (load ! (from ! (stop !)) (look ! 34 refl)) (and-then ! (lit ! tt) (no-more !))))
-          (from ! (stop !)) (init ! 36 refl (tt, (tt, (record { fits = lit< tt }, tt)))) $
           move ! (6 ∷ 8 ∷ []) $ lent-both tt (λ ν ν₁ γ γ₁. group ! 4 $
           use1 W (raw (ByOne 𝓤 H A startedAt .pre (to-one ν ν₁ γ γ₁ startedAt i))) (goes-one ν ν₁ γ γ₁ startedAt i gi) $
           calls-at-last ! fm (ByOne 𝓤 H A startedAt) (known .up) (to-one ν ν₁ γ γ₁ startedAt i)
-          (and-then ! (load ! (from ! (stop !)) (look ! 33 refl))
+          (and-then ! (load ! (from ! (stop !)) (look ! 29 refl))
           (and-then ! (load ! (from ! (stop !)) (look ! 13 refl))
-          (and-then ! (load ! (from ! (stop !)) (look ! 37 refl)) (no-more !)))) (λ v.
-          forget ! 13 refl $ forget ! 31 refl $ forget ! 33 refl $ forget ! 35 refl $ forget ! 37 refl $
+          (and-then ! (load ! (from ! (stop !)) (look ! 33 refl)) (no-more !)))) (λ v.
+          forget ! 13 refl $ forget ! 27 refl $ forget ! 29 refl $ forget ! 31 refl $ forget ! 33 refl $
           after-one ν ν₁ γ γ₁ startedAt i (Startup i) v refl))
 
       at-shutdown : (i : ℕ) → Matched (Shutdown i)
       at-shutdown i g =
           let gi : i < 2 ^ 64 = EL.owed G.the-type G′.the-laws (Shutdown i) _ g .0 .1 in
           switches-on ! (load ! (from ! (vrt ! refl (fld ! refl (stop !)))) (look-tag ! 4 (whole !))) $
-          exec ! C Λ E (number 1 1 7 (lending 19 #shutdown (of 7 ∷ []))) (Then (Shutdown i)) $
+          exec ! C Λ E (number 1 1 7 (lending 17 #shutdown (of 7 ∷ []))) (Then (Shutdown i)) $
           assigns ! (of-opd ! (load ! (from ! (vrt ! refl (fld ! refl (stop !))))
           (look-in ! 4 (in-variant ! 1 0 refl refl (whole !))))) (from ! (stop !))
           (init ! 14 refl (tt, record { fits = gi })) $
+          assigns ! (addr ! (from ! (stop !))) (from ! (stop !)) (init ! 34 refl (tt, tt)) $
+          assigns ! (agg ! (and-then ! (load ! (from ! (stop !)) (look ! 34 refl)) (and-then ! (lit ! tt) (no-more !))))
+          (from ! (stop !)) (init ! 36 refl (tt, (tt, (record { fits = lit< tt }, tt)))) $
           assigns ! (addr ! (from ! (stop !))) (from ! (stop !)) (init ! 38 refl (tt, tt)) $
           assigns ! (agg ! (and-then ! (load ! (from ! (stop !)) (look ! 38 refl)) (and-then ! (lit ! tt) (no-more !))))
           (from ! (stop !)) (init ! 40 refl (tt, (tt, (record { fits = lit< tt }, tt)))) $
-          assigns ! (addr ! (from ! (stop !))) (from ! (stop !)) (init ! 42 refl (tt, tt)) $
-          assigns ! (agg ! (and-then ! (load ! (from ! (stop !)) (look ! 42 refl)) (and-then ! (lit ! tt) (no-more !))))
-          (from ! (stop !)) (init ! 44 refl (tt, (tt, (record { fits = lit< tt }, tt)))) $
           move ! (6 ∷ 8 ∷ []) $ lent-both tt (λ ν ν₁ γ γ₁. group ! 4 $
           use1 W (raw (ByOne 𝓤 H A shutAt .pre (to-one ν ν₁ γ γ₁ shutAt i))) (goes-one ν ν₁ γ γ₁ shutAt i gi) $
           calls-at-last ! fm (ByOne 𝓤 H A shutAt) (known .down) (to-one ν ν₁ γ γ₁ shutAt i)
-          (and-then ! (load ! (from ! (stop !)) (look ! 41 refl))
+          (and-then ! (load ! (from ! (stop !)) (look ! 37 refl))
           (and-then ! (load ! (from ! (stop !)) (look ! 15 refl))
-          (and-then ! (load ! (from ! (stop !)) (look ! 45 refl)) (no-more !)))) (λ v.
-          forget ! 15 refl $ forget ! 39 refl $ forget ! 41 refl $ forget ! 43 refl $ forget ! 45 refl $
+          (and-then ! (load ! (from ! (stop !)) (look ! 41 refl)) (no-more !)))) (λ v.
+          forget ! 15 refl $ forget ! 35 refl $ forget ! 37 refl $ forget ! 39 refl $ forget ! 41 refl $
           after-one ν ν₁ γ γ₁ shutAt i (Shutdown i) v refl))
 
       at-clock : (i k : ℕ) → Matched (Clock i k)
@@ -555,29 +498,29 @@ module _ {M : Type 1} (𝓤 : URA M) (H : Heap 𝓤) (A : Atoms 𝓤) (W : Given
           let gi : i < 2 ^ 64 = EL.owed G.the-type G′.the-laws (Clock i k) _ g .0 .1 in
           let gk : k < 2 ^ 32 = EL.owed G.the-type G′.the-laws (Clock i k) _ g .1 .0 .1 in
           switches-on ! (load ! (from ! (vrt ! refl (fld ! refl (stop !)))) (look-tag ! 4 (whole !))) $
-          exec ! C Λ E (number 2 1 8 (number 2 2 9 (lending 23 #clock (of 8 ∷ of 9 ∷ [])))) (Then (Clock i k)) $
+          exec ! C Λ E (number 2 1 8 (number 2 2 9 (lending 21 #clock (of 8 ∷ of 9 ∷ [])))) (Then (Clock i k)) $
           assigns ! (of-opd ! (load ! (from ! (vrt ! refl (fld ! refl (stop !))))
           (look-in ! 4 (in-variant ! 2 0 refl refl (whole !))))) (from ! (stop !))
           (init ! 16 refl (tt, record { fits = gi })) $
           assigns ! (of-opd ! (load ! (from ! (vrt ! refl (fld ! refl (stop !))))
           (look-in ! 4 (in-variant ! 2 1 refl refl (whole !))))) (from ! (stop !))
           (init ! 18 refl (tt, record { fits = gk })) $
+          assigns ! (addr ! (from ! (stop !))) (from ! (stop !)) (init ! 42 refl (tt, tt)) $
+          assigns ! (agg ! (and-then ! (load ! (from ! (stop !)) (look ! 42 refl)) (and-then ! (lit ! tt) (no-more !))))
+          (from ! (stop !)) (init ! 44 refl (tt, (tt, (record { fits = lit< tt }, tt)))) $
           assigns ! (addr ! (from ! (stop !))) (from ! (stop !)) (init ! 46 refl (tt, tt)) $
           assigns ! (agg ! (and-then ! (load ! (from ! (stop !)) (look ! 46 refl)) (and-then ! (lit ! tt) (no-more !))))
           (from ! (stop !)) (init ! 48 refl (tt, (tt, (record { fits = lit< tt }, tt)))) $
-          assigns ! (addr ! (from ! (stop !))) (from ! (stop !)) (init ! 50 refl (tt, tt)) $
-          assigns ! (agg ! (and-then ! (load ! (from ! (stop !)) (look ! 50 refl)) (and-then ! (lit ! tt) (no-more !))))
-          (from ! (stop !)) (init ! 52 refl (tt, (tt, (record { fits = lit< tt }, tt)))) $
           move ! (6 ∷ 8 ∷ []) $ lent-both tt (λ ν ν₁ γ γ₁. group ! 4 $
           use1 W (raw (ByTwo 𝓤 H A w32 clockedAt .pre (to-two ν ν₁ γ γ₁ w32 clockedAt i k)))
           (goes-two ν ν₁ γ γ₁ w32 clockedAt i k gi (refl, gk)) $
           calls-at-last ! fm (ByTwo 𝓤 H A w32 clockedAt) (known .ticked) (to-two ν ν₁ γ γ₁ w32 clockedAt i k)
-          (and-then ! (load ! (from ! (stop !)) (look ! 49 refl))
+          (and-then ! (load ! (from ! (stop !)) (look ! 45 refl))
           (and-then ! (load ! (from ! (stop !)) (look ! 17 refl))
           (and-then ! (load ! (from ! (stop !)) (look ! 19 refl))
-          (and-then ! (load ! (from ! (stop !)) (look ! 53 refl)) (no-more !))))) (λ v.
-          forget ! 17 refl $ forget ! 19 refl $ forget ! 47 refl $
-          forget ! 49 refl $ forget ! 51 refl $ forget ! 53 refl $
+          (and-then ! (load ! (from ! (stop !)) (look ! 49 refl)) (no-more !))))) (λ v.
+          forget ! 17 refl $ forget ! 19 refl $ forget ! 43 refl $
+          forget ! 45 refl $ forget ! 47 refl $ forget ! 49 refl $
           after-two ν ν₁ γ γ₁ w32 clockedAt i k (Clock i k) v refl))
 
       at-deliver : (i k : ℕ) → Matched (Deliver i k)
@@ -585,65 +528,38 @@ module _ {M : Type 1} (𝓤 : URA M) (H : Heap 𝓤) (A : Atoms 𝓤) (W : Given
           let gi : i < 2 ^ 64 = EL.owed G.the-type G′.the-laws (Deliver i k) _ g .0 .1 in
           let gk : k < 2 ^ 64 = EL.owed G.the-type G′.the-laws (Deliver i k) _ g .1 .0 .1 in
           switches-on ! (load ! (from ! (vrt ! refl (fld ! refl (stop !)))) (look-tag ! 4 (whole !))) $
-          exec ! C Λ E (number 3 1 10 (number 3 2 11 (lending 27 #deliver (of 10 ∷ of 11 ∷ [])))) (Then (Deliver i k)) $
+          exec ! C Λ E (number 3 1 10 (number 3 2 11 (lending 25 #deliver (of 10 ∷ of 11 ∷ [])))) (Then (Deliver i k)) $
           assigns ! (of-opd ! (load ! (from ! (vrt ! refl (fld ! refl (stop !))))
           (look-in ! 4 (in-variant ! 3 0 refl refl (whole !))))) (from ! (stop !))
           (init ! 20 refl (tt, record { fits = gi })) $
           assigns ! (of-opd ! (load ! (from ! (vrt ! refl (fld ! refl (stop !))))
           (look-in ! 4 (in-variant ! 3 1 refl refl (whole !))))) (from ! (stop !))
           (init ! 22 refl (tt, record { fits = gk })) $
+          assigns ! (addr ! (from ! (stop !))) (from ! (stop !)) (init ! 50 refl (tt, tt)) $
+          assigns ! (agg ! (and-then ! (load ! (from ! (stop !)) (look ! 50 refl)) (and-then ! (lit ! tt) (no-more !))))
+          (from ! (stop !)) (init ! 52 refl (tt, (tt, (record { fits = lit< tt }, tt)))) $
           assigns ! (addr ! (from ! (stop !))) (from ! (stop !)) (init ! 54 refl (tt, tt)) $
           assigns ! (agg ! (and-then ! (load ! (from ! (stop !)) (look ! 54 refl)) (and-then ! (lit ! tt) (no-more !))))
           (from ! (stop !)) (init ! 56 refl (tt, (tt, (record { fits = lit< tt }, tt)))) $
-          assigns ! (addr ! (from ! (stop !))) (from ! (stop !)) (init ! 58 refl (tt, tt)) $
-          assigns ! (agg ! (and-then ! (load ! (from ! (stop !)) (look ! 58 refl)) (and-then ! (lit ! tt) (no-more !))))
-          (from ! (stop !)) (init ! 60 refl (tt, (tt, (record { fits = lit< tt }, tt)))) $
           move ! (6 ∷ 8 ∷ []) $ lent-both tt (λ ν ν₁ γ γ₁. group ! 4 $
           use1 W (raw (ByTwo 𝓤 H A w64 deliveredAt .pre (to-two ν ν₁ γ γ₁ w64 deliveredAt i k)))
           (goes-two ν ν₁ γ γ₁ w64 deliveredAt i k gi (refl, gk)) $
           calls-at-last ! fm (ByTwo 𝓤 H A w64 deliveredAt) (known .handed) (to-two ν ν₁ γ γ₁ w64 deliveredAt i k)
-          (and-then ! (load ! (from ! (stop !)) (look ! 57 refl))
+          (and-then ! (load ! (from ! (stop !)) (look ! 53 refl))
           (and-then ! (load ! (from ! (stop !)) (look ! 21 refl))
           (and-then ! (load ! (from ! (stop !)) (look ! 23 refl))
-          (and-then ! (load ! (from ! (stop !)) (look ! 61 refl)) (no-more !))))) (λ v.
-          forget ! 21 refl $ forget ! 23 refl $ forget ! 55 refl $
-          forget ! 57 refl $ forget ! 59 refl $ forget ! 61 refl $
+          (and-then ! (load ! (from ! (stop !)) (look ! 57 refl)) (no-more !))))) (λ v.
+          forget ! 21 refl $ forget ! 23 refl $ forget ! 51 refl $
+          forget ! 53 refl $ forget ! 55 refl $ forget ! 57 refl $
           after-two ν ν₁ γ γ₁ w64 deliveredAt i k (Deliver i k) v refl))
-
-      at-pass : (i k : ℕ) → Matched (Pass i k)
-      at-pass i k g =
-          let gi : i < 2 ^ 64 = EL.owed G.the-type G′.the-laws (Pass i k) _ g .0 .1 in
-          let gk : k < 2 ^ 32 = EL.owed G.the-type G′.the-laws (Pass i k) _ g .1 .0 .1 in
-          switches-on ! (load ! (from ! (vrt ! refl (fld ! refl (stop !)))) (look-tag ! 4 (whole !))) $
-          exec ! C Λ E
-          (number 4 1 12 (number 4 2 13 (with-stations 31 (call #pass (of 32 ∷ of 12 ∷ of 13 ∷ []) (place 14 [])))))
-          (Then (Pass i k)) $
-          assigns ! (of-opd ! (load ! (from ! (vrt ! refl (fld ! refl (stop !))))
-          (look-in ! 4 (in-variant ! 4 0 refl refl (whole !))))) (from ! (stop !))
-          (init ! 24 refl (tt, record { fits = gi })) $
-          assigns ! (of-opd ! (load ! (from ! (vrt ! refl (fld ! refl (stop !))))
-          (look-in ! 4 (in-variant ! 4 1 refl refl (whole !))))) (from ! (stop !))
-          (init ! 26 refl (tt, record { fits = gk })) $
-          assigns ! (addr ! (from ! (stop !))) (from ! (stop !)) (init ! 62 refl (tt, tt)) $
-          assigns ! (agg ! (and-then ! (load ! (from ! (stop !)) (look ! 62 refl)) (and-then ! (lit ! tt) (no-more !))))
-          (from ! (stop !)) (init ! 64 refl (tt, (tt, (record { fits = lit< tt }, tt)))) $
-          move ! (6 ∷ 8 ∷ []) $ lent-stations tt (λ ν γ. move ! (2 ∷ 0 ∷ []) $ group ! 2 $
-          use1 W (raw (Passing .pre (to-pass ν γ i k))) (goes-pass ν γ i k gi gk) $
-          calls-at-last ! fm Passing (known .over) (to-pass ν γ i k)
-          (and-then ! (load ! (from ! (stop !)) (look ! 65 refl))
-          (and-then ! (load ! (from ! (stop !)) (look ! 25 refl))
-          (and-then ! (load ! (from ! (stop !)) (look ! 27 refl)) (no-more !)))) (λ v.
-          forget ! 25 refl $ forget ! 27 refl $ forget ! 63 refl $ forget ! 65 refl $
-          after-pass ν γ i k v))
 
       matched : (d : Step) → Matched d
       matched (Startup i) = at-startup i
       matched (Shutdown i) = at-shutdown i
       matched (Clock i k) = at-clock i k
       matched (Deliver i k) = at-deliver i k
-      matched (Pass i k) = at-pass i k
 
-  walk : (C : Calls 𝓤 H) (Λ : Loops 𝓤 H) → FmC 𝓤 H (W .laws) C → Known 𝓤 H A mem run C → (d : Step)
+  walk : (C : Calls 𝓤 H) (Λ : Loops 𝓤 H) → FmC 𝓤 H (W .laws) C → Known 𝓤 H A C → (d : Step)
       → Is G.the-row d (stepVal d ∷ [])
       → ent 𝓤 (onEntry 𝓤 H A here.signature tt tt (ys, (d, tt)) (alls ys ∷ [], (stepVal d ∷ [], tt)))
       (WpFn 𝓤 H C Λ code.function (alls ys ∷ stepVal d ∷ []) (Post d))
@@ -656,24 +572,21 @@ module _ {M : Type 1} (𝓤 : URA M) (H : Heap 𝓤) (A : Atoms 𝓤) (W : Given
       alloc1 ! (λ l₁₂. alloc1 ! (λ l₁₃. alloc1 ! (λ l₁₄. alloc1 ! (λ l₁₅. alloc1 ! (λ l₁₆. alloc1 ! (λ l₁₇.
       alloc1 ! (λ l₁₈. alloc1 ! (λ l₁₉. alloc1 ! (λ l₂₀. alloc1 ! (λ l₂₁. alloc1 ! (λ l₂₂. alloc1 ! (λ l₂₃.
       alloc1 ! (λ l₂₄. alloc1 ! (λ l₂₅. alloc1 ! (λ l₂₆. alloc1 ! (λ l₂₇. alloc1 ! (λ l₂₈. alloc1 ! (λ l₂₉.
-      alloc1 ! (λ l₃₀. alloc1 ! (λ l₃₁. alloc1 ! (λ l₃₂. alloc1 ! (λ l₃₃.
-      alloc0 ! $ params1 ! $ pass1 ! (init ! 64 refl (all-typed 𝓤 H A W ys is-all)) $
-      pass1 ! (init ! 62 refl (EL.lawful G.the-type G′.the-laws 𝓤 H A W tt .typed d _ g .0)) $ pass0 ! $
+      alloc0 ! $ params1 ! $ pass1 ! (init ! 56 refl (all-typed 𝓤 H A W ys is-all)) $
+      pass1 ! (init ! 54 refl (EL.lawful G.the-type G′.the-laws 𝓤 H A W tt .typed d _ g .0)) $ pass0 ! $
       -- the first above the others
-      move ! (66 ∷ 67 ∷ 64 ∷ 65 ∷ 62 ∷ 63 ∷ 60 ∷ 61 ∷ 58 ∷ 59 ∷ 56 ∷ 57 ∷ 54 ∷ 55 ∷ 52 ∷ 53 ∷ 50 ∷ 51 ∷ 48 ∷ 49 ∷
-      46 ∷ 47 ∷ 44 ∷ 45 ∷ 42 ∷ 43 ∷ 40 ∷ 41 ∷ 38 ∷ 39 ∷ 36 ∷ 37 ∷ 34 ∷ 35 ∷ 32 ∷ 33 ∷ 30 ∷ 31 ∷ 28 ∷ 29 ∷
-      26 ∷ 27 ∷ 24 ∷ 25 ∷ 22 ∷ 23 ∷ 20 ∷ 21 ∷ 18 ∷ 19 ∷ 16 ∷ 17 ∷ 14 ∷ 15 ∷ 12 ∷ 13 ∷ 10 ∷ 11 ∷ 8 ∷ 9 ∷ 6 ∷ 7 ∷
-      4 ∷ 5 ∷ 2 ∷ 3 ∷ 0 ∷ 1 ∷ []) $
+      move ! (58 ∷ 59 ∷ 56 ∷ 57 ∷ 54 ∷ 55 ∷ 52 ∷ 53 ∷ 50 ∷ 51 ∷ 48 ∷ 49 ∷ 46 ∷ 47 ∷ 44 ∷ 45 ∷ 42 ∷ 43 ∷ 40 ∷
+      41 ∷ 38 ∷ 39 ∷ 36 ∷ 37 ∷ 34 ∷ 35 ∷ 32 ∷ 33 ∷ 30 ∷ 31 ∷ 28 ∷ 29 ∷ 26 ∷ 27 ∷ 24 ∷ 25 ∷ 22 ∷ 23 ∷ 20 ∷ 21 ∷
+      18 ∷ 19 ∷ 16 ∷ 17 ∷ 14 ∷ 15 ∷ 12 ∷ 13 ∷ 10 ∷ 11 ∷ 8 ∷ 9 ∷ 6 ∷ 7 ∷ 4 ∷ 5 ∷ 2 ∷ 3 ∷ 0 ∷ 1 ∷ []) $
       assigns ! (of-opd ! (load ! (from ! (stop !)) (look ! 2 refl))) (from ! (stop !))
       (init ! 6 refl (all-typed 𝓤 H A W ys is-all)) $
       assigns ! (rep ! roomBytes (lit ! tt)) (from ! (stop !)) (init ! 8 refl (room-typed 𝓤 H A W)) $
       first ! $ matched C Λ fm
-      (λ j. getD (l₀ ∷ l₁ ∷ l₂ ∷ l₃ ∷ l₄ ∷ l₅ ∷ l₆ ∷ l₇ ∷ l₈ ∷ l₉ ∷ l₁₀ ∷ l₁₁ ∷ l₁₂ ∷ l₁₃ ∷
-      l₁₄ ∷ l₁₅ ∷ l₁₆ ∷ l₁₇ ∷ l₁₈ ∷ l₁₉ ∷ l₂₀ ∷ l₂₁ ∷ l₂₂ ∷ l₂₃ ∷ l₂₄ ∷ l₂₅ ∷ l₂₆ ∷ l₂₇ ∷ l₂₈ ∷ l₂₉ ∷ l₃₀ ∷ l₃₁ ∷
-      l₃₂ ∷ l₃₃ ∷ []) j 0) known d g))))))))))))))))))))))))))))))))))
+      (λ j. getD (l₀ ∷ l₁ ∷ l₂ ∷ l₃ ∷ l₄ ∷ l₅ ∷ l₆ ∷ l₇ ∷ l₈ ∷ l₉ ∷ l₁₀ ∷ l₁₁ ∷ l₁₂ ∷ l₁₃ ∷ l₁₄ ∷ l₁₅ ∷
+      l₁₆ ∷ l₁₇ ∷ l₁₈ ∷ l₁₉ ∷ l₂₀ ∷ l₂₁ ∷ l₂₂ ∷ l₂₃ ∷ l₂₄ ∷ l₂₅ ∷ l₂₆ ∷ l₂₇ ∷ l₂₈ ∷ l₂₉ ∷ []) j 0) known d g))))))))))))))))))))))))))))))
 
 module _ {M : Type 1} (𝓤 : URA M) (H : Heap 𝓤) (A : Atoms 𝓤) (W : Given 𝓤 H A) (mem : Memory → SProp 𝓤)
-    (run : Routine → Fun 𝓤) (𝓣 : Tables 𝓤 H) (known : Known 𝓤 H A mem run (𝓣 .C)) where
+    (run : Routine → Fun 𝓤) (𝓣 : Tables 𝓤 H) (known : Known 𝓤 H A (𝓣 .C)) where
   walks : Walks 𝓤 H A here.ended stayed (WpFn 𝓤 H (𝓣 .C) (𝓣 .Λ) code.function) (here.clauses 𝓤 H A mem run)
   walks =
       walked 𝓤 H A here.ended stayed (here.clauses 𝓤 H A mem run) (WpFn 𝓤 H (𝓣 .C) (𝓣 .Λ) code.function)
@@ -709,7 +622,4 @@ step-in-spec 𝓤 H 𝓜 𝓖 𝓡 =
       handed =
           cited 𝓤 H (ByTwo 𝓤 H (𝓖 .A) w64 deliveredAt) 𝓜 𝓡 code.env #deliver deliver-def.routine
           code.calls-stations·list·deliver (deliver-thm.met 𝓤 H 𝓜 𝓖 𝓡);
-      over =
-          cited 𝓤 H (tripleOf 𝓤 H (𝓖 .A) pass.signature (pass.spec 𝓤 H (𝓖 .A) (𝓜 .mem) (𝓡 .run))) 𝓜 𝓡 code.env #pass
-          pass-def.routine code.calls-stations·list·pass (pass-thm.met 𝓤 H 𝓜 𝓖 𝓡);
     })
