@@ -2,4 +2,5 @@ mod Stored
 mod Taking
 mod Spelled
 mod Stepping
+mod Turning
 pub mod Theorems

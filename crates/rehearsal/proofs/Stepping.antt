@@ -18,7 +18,6 @@ use Rattle.stations.specs.declared.station.Stepped.{Stepped}
 use Rattle.stations.specs.Making.{stationRefusal, madeOf}
 use Rattle.stations.specs.List.{nowhere}
 use Rattle.rehearsal.specs.declared.segment.Segment.{Segment}
-use Rattle.rehearsal.specs.declared.segment.Taken.{Taken}
 use Rattle.rehearsal.specs.declared.kinds.Kind.{Kind}
 use Rattle.rehearsal.specs.declared.kinds.Kind.the-variants.{
   Unknown,
@@ -32,7 +31,7 @@ use Rattle.rehearsal.specs.declared.kinds.Kind.the-variants.{
 use Rattle.rehearsal.specs.declared.run.Progress.{Progress}
 use Rattle.rehearsal.specs.declared.run.Ran.{Ran}
 use Rattle.rehearsal.specs.Kinds.{kindOf, kindNumber, bodyLength}
-use Rattle.rehearsal.specs.Record.{takenBy}
+use Rattle.rehearsal.specs.Record.{refusalOf}
 use Rattle.rehearsal.specs.Lines.{Printed, lineOf, refusedLine, printedOf}
 use Rattle.rehearsal.specs.Run.{
   exhausted,
@@ -41,7 +40,6 @@ use Rattle.rehearsal.specs.Run.{
   ends,
   recordStep,
   stepOf,
-  Steps,
   leftOf,
   stopsAt,
   Runs,
@@ -68,6 +66,11 @@ body-short Deliver = omega arith
 pub prints-nothing : (room : List ℕ) → Printed [] room 0 room
 prints-nothing room = record { written-is = refl; room-is = refl; fits = omega arith }
 
+pub printed-as : {text other before after : List ℕ} {written : ℕ} → text ≡ other → Printed text before written after
+    → Printed other before written after
+printed-as {text} {other} {before} {after} {written} e printed =
+    subst (λ (l : List ℕ). Printed l before written after) e printed
+
 -- kinds 1 and 2, and 3 to 6
 module _ (kind : Kind) (number : ℕ) (segment : Segment) (n : ℕ) (is-n : n ≡ kindNumber kind) where
   pub silent-kind : (room : List ℕ) → n < 3 → Printed (printedOf kind number segment) room 0 room
@@ -77,73 +80,9 @@ module _ (kind : Kind) (number : ℕ) (segment : Segment) (n : ℕ) (is-n : n �
       → Printed (printedOf kind number segment) before written after
   line-kind before after written h p = rw (← is-n, le-ltb n 3 h) p
 
--- a promise of one step is one of an equal step
-pub steps-equal : {a b : Step} (before : List ℕ) (ran : Ran) (after : List ℕ) → a ≡ b → Steps a before ran after
-    → Steps b before ran after
-steps-equal before ran after e h = subst (λ (x : Step). Steps x before ran after) e h
-
--- a record that is refused, or taken
-module _ (p : Progress) (kind : Kind) (body before after : List ℕ) (written : ℕ) (taken : Taken)
-    (is-taken : taken ≡ takenBy (p .segment) kind body) where
-  pub step-refused : (last : Progress) → ¬ (taken .refusal ≡ 0) → last ≡ ended p
-      → Printed (refusedLine (p .number) (taken .refusal)) before written after
-      → Steps (recordStep p kind body) before (record { progress = last; written = written }) after
-  step-refused last n e printed =
-      rw (← is-taken, ne-eqb (taken .refusal) 0 n) (record { progress-is = e; printed = printed })
-
-  pub step-taken : (long : ℕ) → taken .refusal ≡ 0 → long ≡ bodyLength kind
-      → Printed (printedOf kind (p .number) (taken .segment)) before written after
-      → Steps (recordStep p kind body) before
-      (record {
-        progress =
-            record { segment = taken .segment; at = p .at + 1 + long; number = p .number + 1; done = false };
-        written = written;
-      }) after
-  step-taken long z e printed =
-      rw (← is-taken, eq-eqb (taken .refusal) 0 z, e) (record { progress-is = refl; printed = printed })
-
--- the next record, or the end
-module _ (script : List ℕ) (p : Progress) where
-  pub step-long : (before after : List ℕ) (written : ℕ) (last : Progress) → 65536 < length script → last ≡ ended p
-      → Printed (refusedLine 0 30) before written after
-      → Steps (stepOf script p) before (record { progress = last; written = written }) after
-  unfolding stepOf
-  step-long before after written last h e printed =
-      rw (lt-ltb 65536 (length script) h) (record { progress-is = e; printed = printed })
-
-  module _ (fits : length script ≤ 65536) where
-    step-ends : (room : List ℕ) (last : Progress) → exhausted script p ≡ true → last ≡ ended p
-        → Steps (stepOf script p) room (record { progress = last; written = 0 }) room
-    unfolding stepOf
-    step-ends room last t e =
-        rw (le-ltb 65536 (length script) fits, t) (record { progress-is = e; printed = prints-nothing room })
-
-    pub step-none : (room : List ℕ) (last : Progress) → length script ≤ p .at → last ≡ ended p
-        → Steps (stepOf script p) room (record { progress = last; written = 0 }) room
-    step-none room last h e = step-ends room last (rw (le-leb (length script) (p .at) h)) e
-
-    module _ (more : p .at < length script) where
-      pub step-misplaced : (room : List ℕ) (last : Progress) → p .at + 1 < p .number → last ≡ ended p
-          → Steps (stepOf script p) room (record { progress = last; written = 0 }) room
-      step-misplaced room last h e =
-          step-ends room last (rw (lt-leb (length script) (p .at) more, lt-ltb (p .at + 1) (p .number) h)) e
-
-      pub step-goes : (kind : Kind) → kind ≡ kindOf (getD script (p .at) 0) → p .number ≤ p .at + 1
-          → recordStep p kind (take (length script - (p .at + 1)) (drop (p .at + 1) script)) ≡ stepOf script p
-      unfolding stepOf
-      step-goes kind e h =
-          rw (
-            e,
-            take-all (length script - (p .at + 1)) (drop (p .at + 1) script)
-                (omega (arith, length-drop (p .at + 1) script)),
-            le-ltb 65536 (length script) fits,
-            lt-leb (length script) (p .at) more,
-            le-ltb (p .at + 1) (p .number) h,
-          )
-
 -- what is left to do falls
 taken-falls : (t : Bool) (script : List ℕ) (p : Progress) (kind : Kind) (body : List ℕ) → p .done ≡ false
-    → p .at < length script → eqb (takenBy (p .segment) kind body .refusal) 0 ≡ t
+    → p .at < length script → eqb (refusalOf (p .segment) kind body) 0 ≡ t
     → leftOf script (recordStep p kind body .progress) < leftOf script p
 taken-falls true script p kind body d h e = rw (e, d) (omega arith)
 taken-falls false script p kind body d h e = rw (e, d) (omega arith)
@@ -238,33 +177,29 @@ module _ {script : List ℕ} {p : Progress} {before : List ℕ} {here : Progress
   pub written-fits : written ≤ length after
   written-fits = omega (arith, room-long, so-far .printed .written-is, so-far .printed .fits)
 
-  pub more-fits : (step : Step) (ran : Ran) (part : List ℕ)
-      → Steps step (midOf written (length after - written) after) ran part
-      → written + ran .written ≤ length before
-  more-fits step ran part steps =
-      let second = steps .printed in
+  pub more-fits : (line : List ℕ) (more : ℕ) (part : List ℕ)
+      → Printed line (midOf written (length after - written) after) more part → written + more ≤ length before
+  more-fits line more part second =
       omega (arith, room-long, written-fits, second .written-is, second .fits, mid-long written after)
 
   -- a record more
-  pub turn : (ran : Ran) (part : List ℕ) → stopsAt here (length after - written) ≡ false
-      → Steps (stepOf script here) (midOf written (length after - written) after) ran part
-      → SoFar script p before (ran .progress) (written + ran .written)
-      (putMid written (length after - written) after part)
-  turn ran part n steps =
+  pub turn : (next : Progress) (more : ℕ) (part : List ℕ) → stopsAt here (length after - written) ≡ false
+      → next ≡ stepOf script here .progress
+      → Printed (stepOf script here .line) (midOf written (length after - written) after) more part
+      → SoFar script p before next (written + more) (putMid written (length after - written) after part)
+  turn next more part n is-next second =
       let line = stepOf script here .line in
       let text = so-far .text in
       let first = so-far .printed in
-      let second = steps .printed in
       let long = length-append text line in
       let fits : length line ≤ length after - written = omega (arith, second .fits, mid-long written after) in
-      let left : length before - (written + ran .written) ≡ length before - written - length line =
+      let left : length before - (written + more) ≡ length before - written - length line =
       omega (arith, second .written-is) in
       record {
         text = text ++ line;
         follows = λ rest q r.
             rw append-assoc
-            (so-far .follows (line ++ rest) q
-            (goes (rw room-long at n) (runs-equal (steps .progress-is) left r)));
+            (so-far .follows (line ++ rest) q (goes (rw room-long at n) (runs-equal is-next left r)));
         printed =
             record {
               written-is = omega (arith, first .written-is, second .written-is);
@@ -286,3 +221,9 @@ module _ {script : List ℕ} {p : Progress} {before : List ℕ} {here : Progress
             (so-far .follows [] here (stops (rw room-long at t)));
         printed = so-far .printed;
       }
+
+-- and it is one from an equal progress
+pub leaves-from : {script before after : List ℕ} {p q : Progress} {ran : Ran} → p ≡ q
+    → RunLeaves script p before ran after → RunLeaves script q before ran after
+leaves-from {script} {before} {after} {p} {q} {ran} e leaves =
+    subst (λ (x : Progress). RunLeaves script x before ran after) e leaves

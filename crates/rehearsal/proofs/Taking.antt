@@ -16,7 +16,6 @@ use Rattle.stations.specs.declared.station.Stepped.{Stepped}
 use Rattle.stations.specs.Making.{madeOf}
 use Rattle.stations.specs.List.{nowhere}
 use Rattle.rehearsal.specs.declared.segment.Segment.{Segment}
-use Rattle.rehearsal.specs.declared.segment.Taken.{Taken}
 use Rattle.rehearsal.specs.declared.kinds.Kind.{Kind}
 use Rattle.rehearsal.specs.declared.kinds.Kind.the-variants.{
   Unknown,
@@ -29,7 +28,7 @@ use Rattle.rehearsal.specs.declared.kinds.Kind.the-variants.{
 }
 use Rattle.rehearsal.specs.Kinds.{kindOf, kindNumber, bodyLength}
 use Rattle.rehearsal.specs.Checks.{recordChecks, stationChecks, numberChecks, deliverChecks, kindChecks}
-use Rattle.rehearsal.specs.Record.{stationIn, withStations, withStation, afterRecord, checked, takenBy}
+use Rattle.rehearsal.specs.Record.{stationIn, afterRecord, refusalOf}
 use Rattle.rehearsal.proofs.Stored.{read-within}
 
 -- a byte that is no kind
@@ -54,80 +53,43 @@ module _ (begun : Bool) (kind : Kind) (left number long : ℕ) (is-number : numb
   refusal-last t h e =
       rw (← is-number, ne-eqb number 0 known, ← is-long, le-ltb left long h) (ap (λ (x : Bool). cond x 25 0) (sym e))
 
--- a station record that is taken
-module _ (segment : Segment) (body : List ℕ) where
-  pub station-made : (primary : ℕ) (made : Stepped)
-      → primary ≡ numberOf (getD body 2 0) (getD body 3 0) (getD body 4 0) (getD body 5 0)
-      → made ≡ madeOf (segment .vrid) (getD body 0 0) (segment .interval) (eqb (getD body 1 0) 1) primary
-      (segment .address)
-      → made .station ≡ stationIn segment body
-  station-made primary made p m = rw (m, p)
+-- the station that a body describes
+pub station-made : (segment : Segment) (body : List ℕ) (primary : ℕ) (made : Stepped)
+    → primary ≡ numberOf (getD body 2 0) (getD body 3 0) (getD body 4 0) (getD body 5 0)
+    → made ≡ madeOf (segment .vrid) (getD body 0 0) (segment .interval) (eqb (getD body 1 0) 1) primary
+    (segment .address)
+    → made .station ≡ stationIn segment body
+station-made segment body primary made p m = rw (m, p)
 
-  pub station-taken : (station : Station) (after : Segment) → segment .used < 16 → ¬ (getD body 0 0 ≡ 0)
-      → getD body 1 0 ≤ 1 → station ≡ stationIn segment body
-      → after ≡ withStations segment (set (segment .stations) (segment .used) station)
-      → _≡_ {A = Taken} (record {
-        segment =
-            record {
-              stations = after .stations;
-              used = segment .used + 1;
-              vrid = after .vrid;
-              interval = after .interval;
-              address = after .address;
-              begun = after .begun;
-            };
-        refusal = 0;
-      }) (checked segment (stationChecks segment body) (withStation segment body))
-  station-taken station after room some most m e =
-      rw (e, m, lt-ltb (segment .used) 16 room, ne-eqb (getD body 0 0) 0 some, le-ltb 1 (getD body 1 0) most)
-
-  -- startup or shutdown
-  pub number-refused : (after : Segment) → segment .used ≤ getD body 0 0
-      → _≡_ {A = Taken} (record { segment = segment; refusal = 26 })
-      (checked segment (numberChecks segment body) after)
-  number-refused after h = rw (le-ltb (getD body 0 0) (segment .used) h)
-
-  pub number-taken : (stations : List Station) (before after : Segment) → getD body 0 0 < segment .used
-      → after ≡ before → before ≡ withStations segment stations
-      → _≡_ {A = Taken} (record { segment = after; refusal = 0 })
-      (checked segment (numberChecks segment body) (withStations segment stations))
-  number-taken stations before after h e f = rw (lt-ltb (getD body 0 0) (segment .used) h, e, f)
+-- a number past the end names no place
+pub set-past : (l : List Station) (at : ℕ) (s : Station) → length l ≤ at → l ≡ set l at s
+set-past [] at s h = refl
+set-past (x ∷ l) zero s h = absurd (omega arith)
+set-past (x ∷ l) (suc at) s h = ap (λ (m : List Station). x ∷ m) (set-past l at s (omega arith))
 
 -- a delivery, once the two stations are there and are two
-module _ (segment : Segment) (body : List ℕ) (after : Segment) (sent : ℕ)
-    (from-used : getD body 0 0 < segment .used) (to-used : getD body 1 0 < segment .used)
-    (two : ¬ (getD body 0 0 ≡ getD body 1 0))
-    (is-sent : sent ≡ getD (segment .stations) (getD body 0 0) nowhere .sent) where
-  pub deliver-unsent : sent ≡ 0
-      → _≡_ {A = Taken} (record { segment = segment; refusal = 28 })
-      (checked segment (deliverChecks segment body) after)
-  deliver-unsent z =
+module _ (used : ℕ) (stations : List Station) (body : List ℕ) (sent : ℕ) (from-used : getD body 0 0 < used)
+    (to-used : getD body 1 0 < used) (two : ¬ (getD body 0 0 ≡ getD body 1 0))
+    (is-sent : sent ≡ getD stations (getD body 0 0) nowhere .sent) where
+  -- 28, or none, by whether anything was sent
+  pub deliver-last : (t : Bool) → eqb sent 0 ≡ t → cond t 28 0 ≡ firstRefusal (deliverChecks used stations body)
+  deliver-last t e =
       rw (
-        lt-ltb (getD body 0 0) (segment .used) from-used,
-        lt-ltb (getD body 1 0) (segment .used) to-used,
+        lt-ltb (getD body 0 0) used from-used,
+        lt-ltb (getD body 1 0) used to-used,
         ne-eqb (getD body 0 0) (getD body 1 0) two,
         ← is-sent,
-        eq-eqb sent 0 z,
-      )
-
-  pub deliver-taken : (stored : Segment) → ¬ (sent ≡ 0) → stored ≡ after
-      → _≡_ {A = Taken} (record { segment = stored; refusal = 0 })
-      (checked segment (deliverChecks segment body) after)
-  deliver-taken stored some e =
-      rw (
-        lt-ltb (getD body 0 0) (segment .used) from-used,
-        lt-ltb (getD body 1 0) (segment .used) to-used,
-        ne-eqb (getD body 0 0) (getD body 1 0) two,
-        ← is-sent,
-        ne-eqb sent 0 some,
         e,
       )
 
 -- what is promised of a kind that is known
-pub of-kind : (segment : Segment) (body : List ℕ) (kind known : Kind) (r : Taken) → kind ≡ known
-    → r ≡ checked segment (kindChecks known segment body) (afterRecord known segment body)
-    → r ≡ checked segment (kindChecks kind segment body) (afterRecord kind segment body)
-of-kind segment body kind known r e h = rw e h
+pub of-kind : (used : ℕ) (stations : List Station) (body : List ℕ) (kind known : Kind) (r : ℕ) → kind ≡ known
+    → r ≡ firstRefusal (kindChecks known used stations body) → r ≡ firstRefusal (kindChecks kind used stations body)
+of-kind used stations body kind known r e h = rw e h
+
+pub after-kind : (segment : Segment) (body : List ℕ) (kind known : Kind) (r : List Station) → kind ≡ known
+    → r ≡ afterRecord known segment body .stations → r ≡ afterRecord kind segment body .stations
+after-kind segment body kind known r e h = rw e h
 
 pub body-fits : (kind known : Kind) (long : ℕ) → kind ≡ known → bodyLength kind ≤ long → bodyLength known ≤ long
 body-fits kind known long e h = rw e at h
@@ -143,12 +105,11 @@ sent-within l at d long h = ap (λ (s : Station). s .sent) (read-within l at d n
 -- the checks of a kind come after those of every record
 pub record-refused : (segment : Segment) (kind : Kind) (body : List ℕ) (r : ℕ)
     → r ≡ firstRefusal (recordChecks (segment .begun) kind (length body)) → ¬ (r ≡ 0)
-    → _≡_ {A = Taken} (record { segment = segment; refusal = r }) (takenBy segment kind body)
-unfolding takenBy
+    → r ≡ refusalOf segment kind body
+unfolding refusalOf
 record-refused segment kind body r e n =
     let checks = recordChecks (segment .begun) kind (length body) in
-    let first = refusal-before checks (kindChecks kind segment body) (λ z. n (e ∙ z)) in
-    rw (first, ← e, ne-eqb r 0 n)
+    e ∙ sym (refusal-before checks (kindChecks kind (segment .used) (segment .stations) body) (λ z. n (e ∙ z)))
 
 pub record-whole : (begun : Bool) (kind : Kind) (left : ℕ) → firstRefusal (recordChecks begun kind left) ≡ 0
     → bodyLength kind ≤ left
@@ -157,8 +118,8 @@ record-whole begun kind left e =
 
 pub record-goes : (segment : Segment) (kind : Kind) (body : List ℕ)
     → firstRefusal (recordChecks (segment .begun) kind (length body)) ≡ 0
-    → checked segment (kindChecks kind segment body) (afterRecord kind segment body) ≡ takenBy segment kind body
-unfolding takenBy
+    → firstRefusal (kindChecks kind (segment .used) (segment .stations) body) ≡ refusalOf segment kind body
+unfolding refusalOf
 record-goes segment kind body e =
     let checks = recordChecks (segment .begun) kind (length body) in
-    rw (refusal-after checks (kindChecks kind segment body) (omega arith) e)
+    sym (refusal-after checks (kindChecks kind (segment .used) (segment .stations) body) (omega arith) e)

@@ -17,7 +17,7 @@ use Rattle.rehearsal.specs.declared.kinds.Kind.{Kind}
 use Rattle.rehearsal.specs.declared.run.Progress.{Progress}
 use Rattle.rehearsal.specs.declared.run.Ran.{Ran}
 use Rattle.rehearsal.specs.Kinds.{kindOf, bodyLength}
-use Rattle.rehearsal.specs.Record.{takenBy}
+use Rattle.rehearsal.specs.Record.{afterRecord, refusalOf}
 use Rattle.rehearsal.specs.Lines.{Printed, refusedLine, printedOf}
 use Rattle.rehearsal.specs.Script.{linesFrom, rehearsalOf}
 use Rattle.rehearsal.specs.Run.{started, exhausted, dueOf, ends, recordStep, stepOf, leftOf, stopsAt}
@@ -106,14 +106,14 @@ module _ (script : List ℕ) (p : Progress) where
   due-undone d = rw d
 
   line-due : (t : Bool) → ltb 65536 (length script) ≡ false → p .number ≤ p .at + 1
-      → eqb (takenBy (p .segment) kind body .refusal) 0 ≡ t
+      → eqb (refusalOf (p .segment) kind body) 0 ≡ t
       → cond t
-      (printedOf kind (p .number) (takenBy (p .segment) kind body .segment)
-      ++ linesFrom (takenBy (p .segment) kind body .segment) (p .number + 1) body (bodyLength kind))
-      (refusedLine (p .number) (takenBy (p .segment) kind body .refusal))
+      (printedOf kind (p .number) (afterRecord kind (p .segment) body)
+      ++ linesFrom (afterRecord kind (p .segment) body) (p .number + 1) body (bodyLength kind))
+      (refusedLine (p .number) (refusalOf (p .segment) kind body))
       ≡ recordStep p kind body .line ++ dueOf script (recordStep p kind body .progress)
   line-due true fits placed e =
-      let segment = takenBy (p .segment) kind body .segment in
+      let segment = afterRecord kind (p .segment) body in
       let next = due-next script segment (p .at + 1 + bodyLength kind) (p .number + 1) fits (omega arith) in
       rw (
         e,
@@ -121,7 +121,7 @@ module _ (script : List ℕ) (p : Progress) where
         drop-drop (bodyLength kind) (p .at + 1) script,
         next,
       )
-  line-due false fits placed e = rw e (ended-due (refusedLine (p .number) (takenBy (p .segment) kind body .refusal)))
+  line-due false fits placed e = rw e (ended-due (refusedLine (p .number) (refusalOf (p .segment) kind body)))
 
   -- the next record of a script that is neither too long nor exhausted
   record-due : ltb 65536 (length script) ≡ false → exhausted script p ≡ false
@@ -136,7 +136,7 @@ module _ (script : List ℕ) (p : Progress) where
       drop-cons script (p .at) 0 within
       ∙ ap (λ (n : ℕ). getD script (p .at) 0 ∷ drop n script) (sym (add-one (p .at))) in
       ap (λ (l : List ℕ). linesFrom (p .segment) (p .number) l 0) first
-      ∙ line-due (eqb (takenBy (p .segment) kind body .refusal) 0) fits placed refl
+      ∙ line-due (eqb (refusalOf (p .segment) kind body) 0) fits placed refl
 
   test-due : (t : Bool) → ltb 65536 (length script) ≡ false → exhausted script p ≡ t
       → cond t [] (linesFrom (p .segment) (p .number) (drop (p .at) script) 0)

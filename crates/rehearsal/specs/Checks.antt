@@ -5,8 +5,8 @@ use mathlib.Core.Bool.{Bool, cond, not}
 use lib.Dec.{eqb, ltb}
 use lib.ListN.{getD}
 use Rattle.wire.specs.Check.{Check}
+use Rattle.stations.specs.declared.station.Station.{Station}
 use Rattle.stations.specs.List.{nowhere}
-use Rattle.rehearsal.specs.declared.segment.Segment.{Segment}
 use Rattle.rehearsal.specs.declared.kinds.Kind.{Kind}
 use Rattle.rehearsal.specs.declared.kinds.Kind.the-variants.{
   Unknown,
@@ -31,28 +31,28 @@ abbrev pub segmentChecks : List ℕ → List Check
 segmentChecks body = (14, eqb (getD body 0 0) 0) ∷ ((16, eqb (getD body 1 0) 0) ∷ [])
 
 -- "for station 27, 15, 29": a seventeenth station, priority 0, preempt above 1
-abbrev pub stationChecks : Segment → List ℕ → List Check
-stationChecks segment body =
-    (27, not (ltb (segment .used) 16)) ∷ ((15, eqb (getD body 0 0) 0) ∷ ((29, ltb 1 (getD body 1 0)) ∷ []))
+abbrev pub stationChecks : ℕ → List ℕ → List Check
+stationChecks used body =
+    (27, not (ltb used 16)) ∷ ((15, eqb (getD body 0 0) 0) ∷ ((29, ltb 1 (getD body 1 0)) ∷ []))
 
 -- "26 unused station number"
-abbrev pub numberChecks : Segment → List ℕ → List Check
-numberChecks segment body = (26, not (ltb (getD body 0 0) (segment .used))) ∷ []
+abbrev pub numberChecks : ℕ → List ℕ → List Check
+numberChecks used body = (26, not (ltb (getD body 0 0) used)) ∷ []
 
 -- "for deliver 26, 28": "28 from equals to, or from has sent nothing"
-abbrev pub deliverChecks : Segment → List ℕ → List Check
-deliverChecks segment body =
-    (26, not (ltb (getD body 0 0) (segment .used)))
-    ∷ ((26, not (ltb (getD body 1 0) (segment .used)))
+abbrev pub deliverChecks : ℕ → List Station → List ℕ → List Check
+deliverChecks used stations body =
+    (26, not (ltb (getD body 0 0) used))
+    ∷ ((26, not (ltb (getD body 1 0) used))
     ∷ ((28, eqb (getD body 0 0) (getD body 1 0))
-    ∷ ((28, eqb (getD (segment .stations) (getD body 0 0) nowhere .sent) 0) ∷ [])))
+    ∷ ((28, eqb (getD stations (getD body 0 0) nowhere .sent) 0) ∷ [])))
 
--- after those of every record
-abbrev pub kindChecks : Kind → Segment → List ℕ → List Check
-kindChecks Unknown segment body = []
-kindChecks NewSegment segment body = segmentChecks body
-kindChecks NewStation segment body = stationChecks segment body
-kindChecks Startup segment body = numberChecks segment body
-kindChecks Shutdown segment body = numberChecks segment body
-kindChecks Clock segment body = []
-kindChecks Deliver segment body = deliverChecks segment body
+-- after those of every record, where so many stations are used
+abbrev pub kindChecks : Kind → ℕ → List Station → List ℕ → List Check
+kindChecks Unknown used stations body = []
+kindChecks NewSegment used stations body = segmentChecks body
+kindChecks NewStation used stations body = stationChecks used body
+kindChecks Startup used stations body = numberChecks used body
+kindChecks Shutdown used stations body = numberChecks used body
+kindChecks Clock used stations body = []
+kindChecks Deliver used stations body = deliverChecks used stations body

@@ -4,4 +4,5 @@ pub mod Record
 pub mod Lines
 pub mod Script
 pub mod Run
+pub mod Turn
 pub mod Theorems

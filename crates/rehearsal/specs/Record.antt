@@ -1,16 +1,15 @@
 -- What a record does to the segment (01, 'The rehearsal program').
 use Prim.Native.Nat.{ℕ, _+_, _*_}
 use mathlib.Core.List.{List, [], _∷_, _++_}
-use mathlib.Core.Bool.{true, cond}
+use mathlib.Core.Bool.{true}
 use lib.Dec.{eqb}
 use lib.ListN.{length, getD, set}
 use Rattle.sums.specs.Total.{numberOf}
-use Rattle.wire.specs.Check.{Check, firstRefusal}
+use Rattle.wire.specs.Check.{firstRefusal}
 use Rattle.stations.specs.declared.station.Station.{Station}
 use Rattle.stations.specs.Making.{madeOf}
 use Rattle.stations.specs.List.{startedAt, shutAt, deliveredAt, allPassed}
 use Rattle.rehearsal.specs.declared.segment.Segment.{Segment}
-use Rattle.rehearsal.specs.declared.segment.Taken.{Taken}
 use Rattle.rehearsal.specs.declared.kinds.Kind.{Kind}
 use Rattle.rehearsal.specs.declared.kinds.Kind.the-variants.{
   Unknown,
@@ -81,14 +80,8 @@ afterRecord Clock segment body =
 afterRecord Deliver segment body =
     withStations segment (deliveredAt (segment .stations) (getD body 0 0) (getD body 1 0) freshRoom .stations)
 
--- a record is refused by the first check that fails, and else taken
-abbrev pub checked : Segment → List Check → Segment → Taken
-checked segment checks after =
-    cond (eqb (firstRefusal checks) 0) (record { segment = after; refusal = 0 })
-    (record { segment = segment; refusal = firstRefusal checks })
-
--- a record of any kind, whose body begins any bytes
-unfoldable pub takenBy : Segment → Kind → List ℕ → Taken
-takenBy segment kind body =
-    checked segment (recordChecks (segment .begun) kind (length body) ++ kindChecks kind segment body)
-    (afterRecord kind segment body)
+-- the first check that refuses a record of any kind, whose body begins any bytes, or 0
+unfoldable pub refusalOf : Segment → Kind → List ℕ → ℕ
+refusalOf segment kind body =
+    firstRefusal
+    (recordChecks (segment .begun) kind (length body) ++ kindChecks kind (segment .used) (segment .stations) body)

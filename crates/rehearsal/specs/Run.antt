@@ -9,7 +9,7 @@ use Rattle.rehearsal.specs.declared.kinds.Kind.{Kind}
 use Rattle.rehearsal.specs.declared.run.Progress.{Progress}
 use Rattle.rehearsal.specs.declared.run.Ran.{Ran}
 use Rattle.rehearsal.specs.Kinds.{kindOf, bodyLength}
-use Rattle.rehearsal.specs.Record.{takenBy}
+use Rattle.rehearsal.specs.Record.{afterRecord, refusalOf}
 use Rattle.rehearsal.specs.Lines.{Printed, refusedLine, printedOf}
 use Rattle.rehearsal.specs.Script.{emptySegment, linesFrom}
 
@@ -39,21 +39,25 @@ ended p = record { segment = p .segment; at = p .at; number = p .number; done = 
 abbrev pub ends : Progress → List ℕ → Step
 ends p line = record { progress = ended p; line = line }
 
--- the record of this kind, whose body begins these bytes
+-- after a record of this kind that is taken, whose body begins these bytes
+abbrev pub afterTaken : Progress → Kind → List ℕ → Progress
+afterTaken p kind body =
+    record {
+      segment = afterRecord kind (p .segment) body;
+      at = p .at + 1 + bodyLength kind;
+      number = p .number + 1;
+      done = false;
+    }
+
+-- the record of this kind: taken, or refused
 abbrev pub recordStep : Progress → Kind → List ℕ → Step
 recordStep p kind body =
-    cond (eqb (takenBy (p .segment) kind body .refusal) 0)
+    cond (eqb (refusalOf (p .segment) kind body) 0)
     (record {
-      progress =
-          record {
-            segment = takenBy (p .segment) kind body .segment;
-            at = p .at + 1 + bodyLength kind;
-            number = p .number + 1;
-            done = false;
-          };
-      line = printedOf kind (p .number) (takenBy (p .segment) kind body .segment);
+      progress = afterTaken p kind body;
+      line = printedOf kind (p .number) (afterRecord kind (p .segment) body);
     })
-    (ends p (refusedLine (p .number) (takenBy (p .segment) kind body .refusal)))
+    (ends p (refusedLine (p .number) (refusalOf (p .segment) kind body)))
 
 -- the next record, or the end
 unfoldable pub stepOf : List ℕ → Progress → Step
@@ -61,11 +65,6 @@ stepOf script p =
     cond (ltb 65536 (length script)) (ends p (refusedLine 0 30))
     (cond (exhausted script p) (ends p [])
     (recordStep p (kindOf (getD script (p .at) 0)) (drop (p .at + 1) script)))
-
--- the promise of one record: where it leaves the script, and the whole room
-pub record Steps (step : Step) (before : List ℕ) (ran : Ran) (after : List ℕ) : Type 0 where
-  pub progress-is : ran .progress ≡ step .progress
-  pub printed : Printed (step .line) before (ran .written) after
 
 -- what is left to do: a byte at least for each record, and one more for the end
 abbrev pub leftOf : List ℕ → Progress → ℕ

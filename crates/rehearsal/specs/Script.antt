@@ -7,7 +7,7 @@ use lib.ListN.{length, replicate}
 use Rattle.stations.specs.List.{nowhere}
 use Rattle.rehearsal.specs.declared.segment.Segment.{Segment}
 use Rattle.rehearsal.specs.Kinds.{kindOf, bodyLength}
-use Rattle.rehearsal.specs.Record.{takenBy}
+use Rattle.rehearsal.specs.Record.{afterRecord, refusalOf}
 use Rattle.rehearsal.specs.Lines.{refusedLine, printedOf}
 
 -- no segment was read, and no station is there
@@ -28,10 +28,10 @@ unfoldable pub linesFrom : Segment → ℕ → List ℕ → ℕ → List ℕ
 linesFrom segment number [] skip = []
 linesFrom segment number (byte ∷ bytes) (suc skip) = linesFrom segment number bytes skip
 linesFrom segment number (byte ∷ bytes) zero =
-    cond (eqb (takenBy segment (kindOf byte) bytes .refusal) 0)
-    (printedOf (kindOf byte) number (takenBy segment (kindOf byte) bytes .segment)
-    ++ linesFrom (takenBy segment (kindOf byte) bytes .segment) (number + 1) bytes (bodyLength (kindOf byte)))
-    (refusedLine number (takenBy segment (kindOf byte) bytes .refusal))
+    cond (eqb (refusalOf segment (kindOf byte) bytes) 0)
+    (printedOf (kindOf byte) number (afterRecord (kindOf byte) segment bytes)
+    ++ linesFrom (afterRecord (kindOf byte) segment bytes) (number + 1) bytes (bodyLength (kindOf byte)))
+    (refusedLine number (refusalOf segment (kindOf byte) bytes))
 
 -- "30 script too long (record number 0, checked first)": "at most 65,536 bytes"
 unfoldable pub rehearsalOf : List ℕ → List ℕ

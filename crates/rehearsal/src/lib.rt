@@ -1,7 +1,10 @@
 // The rehearsal of a segment of stations from a script.
-pub mod lent; // the steps on the stations in their list
+mod lent; // the steps on the stations in their list
 pub mod segment; // the segment that a script describes
 pub mod kinds; // the kinds of records
-pub mod records; // the records by kind
+mod reading; // how far a script was read
+mod refusals; // what refuses a record
+mod records; // what a record does
 mod lines; // the lines that are printed
+mod turn; // the next record
 pub mod run; // the script in pieces

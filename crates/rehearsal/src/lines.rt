@@ -1,7 +1,7 @@
 // The lines that the rehearsal prints.
 use crate::kinds::Kind;
 use crate::kinds::kind_number;
-use crate::segment::Segment;
+use crate::reading::Reading;
 use router::record::State;
 use stations::station::Station;
 use text::put;
@@ -13,6 +13,7 @@ ghost use Prim.Native.Nat.{_≤_};
 ghost use lib.ListN.{length};
 ghost use Rattle.text.specs.Appended.{Appended};
 ghost use Rattle.rehearsal.specs.Lines.{Printed, letterOf, lettersOf, lineOf, printedOf, refusedLine};
+ghost use Rattle.rehearsal.specs.Turn.{segmentOf};
 
 fn letter_of(state: State) -> u8
     ensures { λ r. ⌜ r ≡ letterOf state ⌝ }
@@ -41,25 +42,30 @@ fn put_letters(out: &mut [u8], at: usize, stations: [Station; 16], used: usize) 
 }
 
 // Puts the line of a record that was taken.
-fn put_line(out: &mut [u8], number: u32, segment: Segment) -> usize
+fn put_line(out: &mut [u8], number: u32, stations: [Station; 16], reading: Reading) -> usize
     requires { ⌜ 32 ≤ length (now out) ⌝ }
-    ensures { λ r. ⌜ Printed (lineOf number segment) (now (out .entry)) r (now (out .exit)) ⌝ }
+    ensures { λ r. ⌜ Printed (lineOf number (segmentOf stations reading)) (now (out .entry)) r (now (out .exit)) ⌝ }
 {
-    let stations = segment.stations;
     let mut next = put_decimal(out, 0, number as u64);
-    next = put_letters(out, next, stations, segment.used);
+    next = put_letters(out, next, stations, reading.used);
     put_byte(out, next, b'\n')
 }
 
 // Puts the line of a record that was taken, where its kind has one.
-pub fn put_printed(out: &mut [u8], kind: Kind, number: u32, segment: Segment) -> usize
+pub fn put_printed(
+    out: &mut [u8],
+    kind: Kind,
+    number: u32,
+    stations: [Station; 16],
+    reading: Reading,
+) -> usize
     requires { ⌜ 32 ≤ length (now out) ⌝ }
-    ensures { λ r. ⌜ Printed (printedOf kind number segment) (now (out .entry)) r (now (out .exit)) ⌝ }
+    ensures { λ r. ⌜ Printed (printedOf kind number (segmentOf stations reading)) (now (out .entry)) r (now (out .exit)) ⌝ }
 {
     if kind_number(kind) < 3 {
         return 0;
     }
-    put_line(out, number, segment)
+    put_line(out, number, stations, reading)
 }
 
 // Puts the line of a refusal.

@@ -1,68 +1,36 @@
-// The records of a script by kind, each refused by its own checks or taken.
+// What a record does that is taken.
 use crate::kinds::Kind;
-use crate::kinds::record_refusal;
+use crate::kinds::body_length;
+use crate::kinds::kind_number;
 use crate::lent::deliver_in;
 use crate::lent::shutdown_in;
 use crate::lent::startup_in;
-use crate::segment::Segment;
-use crate::segment::Taken;
-use crate::segment::sent_by;
-use crate::segment::with_stations;
+use crate::reading::Reading;
 use stations::lent::pass_all_in;
 use stations::making::new_station;
 use stations::station::Station;
 use sums::number;
 ghost use mathlib.Core.Path.{_≡_};
 ghost use mathlib.Core.List.{[]};
-ghost use Prim.Native.Nat.{_≤_};
-ghost use lib.ListN.{length};
-ghost use Rattle.rehearsal.specs.declared.kinds.Kind.the-variants.{Startup, Shutdown, Clock, Deliver};
+ghost use Prim.Native.Nat.{_*_, _+_, _≤_};
+ghost use lib.ListN.{length, getD, set};
+ghost use Rattle.stations.specs.List.{allPassed};
 ghost use Rattle.rehearsal.specs.Kinds.{bodyLength};
-ghost use Rattle.rehearsal.specs.Checks.{segmentChecks, stationChecks, numberChecks, deliverChecks, kindChecks};
-ghost use Rattle.rehearsal.specs.Record.{withSegment, stationIn, withStation, afterRecord, checked, takenBy};
-
-// A segment record; refuses by 14 and 16.
-fn segment_record(segment: Segment, body: &[u8]) -> Taken
-    requires { ⌜ 6 ≤ length (now body) ⌝ }
-    ensures { λ r. ⌜
-        r ≡ checked segment (segmentChecks (now (body .entry))) (withSegment segment (now (body .entry))) ⌝ }
-{
-    let vrid = body[0];
-    let interval = body[1];
-    if vrid == 0 {
-        return Taken {
-            segment: segment,
-            refusal: 14,
-        };
-    }
-    if interval == 0 {
-        return Taken {
-            segment: segment,
-            refusal: 16,
-        };
-    }
-    let mut after = segment;
-    after.vrid = vrid;
-    after.interval = interval;
-    after.address = [body[2], body[3], body[4], body[5]];
-    after.begun = true;
-    Taken {
-        segment: after,
-        refusal: 0,
-    }
-}
+ghost use Rattle.rehearsal.specs.Record.{stationIn, afterRecord};
+ghost use Rattle.rehearsal.specs.Run.{afterTaken};
+ghost use Rattle.rehearsal.specs.Turn.{segmentOf, progressOf, readIn, readingOf, newNumber};
 
 // The station that a body describes.
-fn station_in(segment: Segment, body: &[u8]) -> Station
+fn station_in(reading: Reading, body: &[u8]) -> Station
     requires { ⌜ 6 ≤ length (now body) ⌝ }
-    ensures { λ r. ⌜ r ≡ stationIn segment (now (body .entry)) ⌝ }
+    ensures { λ r. ⌜ r ≡ stationIn (segmentOf [] reading) (now (body .entry)) ⌝ }
 {
     let primary = number(body[2], body[3], body[4], body[5]);
-    let address = segment.address;
+    let address = reading.address;
     let made = new_station(
-        segment.vrid,
+        reading.vrid,
         body[0],
-        segment.interval,
+        reading.interval,
         body[1] == 1,
         primary,
         &address,
@@ -71,168 +39,80 @@ fn station_in(segment: Segment, body: &[u8]) -> Station
     station
 }
 
-// A station record; refuses by 27, 15 and 29.
-fn station_record(segment: Segment, body: &[u8]) -> Taken
+// The stations with the one that a body describes at the first number that is not used; past the end nothing is done.
+fn with_station(stations: [Station; 16], reading: Reading, body: &[u8]) -> [Station; 16]
     requires { ⌜ 6 ≤ length (now body) ⌝ }
-    ensures { λ r. ⌜
-        r ≡ checked segment (stationChecks segment (now (body .entry))) (withStation segment (now (body .entry))) ⌝ }
+    ensures { λ r. ⌜ r ≡ set stations (reading .used)
+        (stationIn (segmentOf [] reading) (now (body .entry))) ⌝ }
 {
-    let used = segment.used;
-    if used >= 16 {
-        return Taken {
-            segment: segment,
-            refusal: 27,
-        };
+    let used = reading.used;
+    let station = station_in(reading, body);
+    let mut after = stations;
+    if used < 16 {
+        after[used] = station;
     }
-    if body[0] == 0 {
-        return Taken {
-            segment: segment,
-            refusal: 15,
-        };
-    }
-    if body[1] > 1 {
-        return Taken {
-            segment: segment,
-            refusal: 29,
-        };
-    }
-    let station = station_in(segment, body);
-    let mut stations = segment.stations;
-    stations[used] = station;
-    let mut after = with_stations(segment, stations);
-    after.used = used + 1;
-    Taken {
-        segment: after,
-        refusal: 0,
-    }
+    after
 }
 
-// A startup record; refuses by 26.
-fn startup_record(segment: Segment, body: &[u8]) -> Taken
-    requires { ⌜ 1 ≤ length (now body) ⌝ }
-    ensures { λ r. ⌜ r ≡ checked segment (numberChecks segment (now (body .entry)))
-        (afterRecord Startup segment (now (body .entry))) ⌝ }
-{
-    let at = body[0] as usize;
-    if at >= segment.used {
-        return Taken {
-            segment: segment,
-            refusal: 26,
-        };
-    }
-    let stations = segment.stations;
-    let after = with_stations(segment, startup_in(stations, at));
-    Taken {
-        segment: after,
-        refusal: 0,
-    }
-}
-
-// A shutdown record; refuses by 26.
-fn shutdown_record(segment: Segment, body: &[u8]) -> Taken
-    requires { ⌜ 1 ≤ length (now body) ⌝ }
-    ensures { λ r. ⌜ r ≡ checked segment (numberChecks segment (now (body .entry)))
-        (afterRecord Shutdown segment (now (body .entry))) ⌝ }
-{
-    let at = body[0] as usize;
-    if at >= segment.used {
-        return Taken {
-            segment: segment,
-            refusal: 26,
-        };
-    }
-    let stations = segment.stations;
-    let after = with_stations(segment, shutdown_in(stations, at));
-    Taken {
-        segment: after,
-        refusal: 0,
-    }
-}
-
-// A clock record.
-fn clock_record(segment: Segment, body: &[u8]) -> Taken
+// So many ticks as a body says pass at the stations that are used.
+fn clock_in(stations: [Station; 16], used: usize, body: &[u8]) -> [Station; 16]
     requires { ⌜ 2 ≤ length (now body) ⌝ }
-    ensures { λ r. ⌜ r ≡ checked segment [] (afterRecord Clock segment (now (body .entry))) ⌝ }
+    ensures { λ r. ⌜
+        r ≡ allPassed (256 * getD (now (body .entry)) 0 0 + getD (now (body .entry)) 1 0) used stations ⌝ }
 {
     let ticks = 256 * (body[0] as u32) + (body[1] as u32);
-    let stations = segment.stations;
-    let after = with_stations(segment, pass_all_in(stations, segment.used, ticks));
-    Taken {
-        segment: after,
-        refusal: 0,
-    }
+    pass_all_in(stations, used, ticks)
 }
 
-// A deliver record; refuses by 26 and 28.
-fn deliver_record(segment: Segment, body: &[u8]) -> Taken
-    requires { ⌜ 2 ≤ length (now body) ⌝ }
-    ensures { λ r. ⌜ r ≡ checked segment (deliverChecks segment (now (body .entry)))
-        (afterRecord Deliver segment (now (body .entry))) ⌝ }
-{
-    let from = body[0] as usize;
-    let to = body[1] as usize;
-    if from >= segment.used {
-        return Taken {
-            segment: segment,
-            refusal: 26,
-        };
-    }
-    if to >= segment.used {
-        return Taken {
-            segment: segment,
-            refusal: 26,
-        };
-    }
-    if from == to {
-        return Taken {
-            segment: segment,
-            refusal: 28,
-        };
-    }
-    let stations = segment.stations;
-    if sent_by(stations, from) == 0 {
-        return Taken {
-            segment: segment,
-            refusal: 28,
-        };
-    }
-    let after = with_stations(segment, deliver_in(stations, from, to));
-    Taken {
-        segment: after,
-        refusal: 0,
-    }
-}
-
-// A record after its checks of 23 to 25.
-fn kind_record(segment: Segment, kind: Kind, body: &[u8]) -> Taken
+// The stations after a record of this kind.
+pub fn stations_after(
+    stations: [Station; 16],
+    reading: Reading,
+    kind: Kind,
+    body: &[u8],
+) -> [Station; 16]
     requires { ⌜ bodyLength kind ≤ length (now body) ⌝ }
-    ensures { λ r. ⌜ r ≡ checked segment (kindChecks kind segment (now (body .entry)))
-        (afterRecord kind segment (now (body .entry))) ⌝ }
+    ensures { λ r. ⌜ r ≡ afterRecord kind (segmentOf stations reading) (now (body .entry)) .stations ⌝ }
 {
     match kind {
-        Kind::Unknown => Taken {
-            segment: segment,
-            refusal: 0,
-        },
-        Kind::NewSegment => segment_record(segment, body),
-        Kind::NewStation => station_record(segment, body),
-        Kind::Startup => startup_record(segment, body),
-        Kind::Shutdown => shutdown_record(segment, body),
-        Kind::Clock => clock_record(segment, body),
-        Kind::Deliver => deliver_record(segment, body),
+        Kind::Unknown => stations,
+        Kind::NewSegment => stations,
+        Kind::NewStation => with_station(stations, reading, body),
+        Kind::Startup => startup_in(stations, body[0] as usize),
+        Kind::Shutdown => shutdown_in(stations, body[0] as usize),
+        Kind::Clock => clock_in(stations, reading.used, body),
+        Kind::Deliver => deliver_in(stations, body[0] as usize, body[1] as usize),
     }
 }
 
-// A record of any kind, whose body begins these bytes: taken, or refused by the first check that fails.
-pub fn take_record(segment: Segment, kind: Kind, body: &[u8]) -> Taken
-    ensures { λ r. ⌜ r ≡ takenBy segment kind (now (body .entry)) ⌝ }
+// What a record of kind 1 or 2 says of the segment.
+fn segment_after(reading: Reading, kind: Kind, body: &[u8]) -> Reading
+    requires { ⌜ (bodyLength kind ≤ length (now body)) × (newNumber kind (reading .used) ≤ 15) ⌝ }
+    ensures { λ r. ⌜ r ≡ readIn (afterRecord kind (segmentOf [] reading) (now (body .entry)))
+        (reading .at) (reading .number) (reading .done) ⌝ }
 {
-    let refusal = record_refusal(segment.begun, kind, body.len());
-    if refusal != 0 {
-        return Taken {
-            segment: segment,
-            refusal: refusal,
-        };
+    let number = kind_number(kind);
+    let mut after = reading;
+    if number == 1 {
+        after.vrid = body[0];
+        after.interval = body[1];
+        after.address = [body[2], body[3], body[4], body[5]];
+        after.begun = true;
+    } else if number == 2 {
+        after.used = reading.used + 1;
     }
-    kind_record(segment, kind, body)
+    after
+}
+
+// How far the script is read after a record of this kind.
+pub fn reading_after(reading: Reading, kind: Kind, body: &[u8]) -> Reading
+    requires { ⌜ (bodyLength kind ≤ length (now body)) × (newNumber kind (reading .used) ≤ 15) ⌝ }
+    requires { ⌜ (reading .at ≤ 65535) × (reading .number ≤ 65536) ⌝ }
+    ensures { λ r. ⌜ r ≡ readingOf (afterTaken (progressOf [] reading) kind (now (body .entry))) ⌝ }
+{
+    let mut after = segment_after(reading, kind, body);
+    after.at = reading.at + 1 + body_length(kind);
+    after.number = reading.number + 1;
+    after.done = false;
+    after
 }

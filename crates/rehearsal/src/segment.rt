@@ -4,7 +4,6 @@ use stations::station::Station;
 ghost use mathlib.Core.Path.{_≡_};
 ghost use lib.ListN.{getD};
 ghost use Rattle.stations.specs.List.{nowhere};
-ghost use Rattle.rehearsal.specs.Record.{withStations};
 ghost use Rattle.rehearsal.specs.Script.{emptySegment};
 
 pub struct Segment {
@@ -18,12 +17,6 @@ pub struct Segment {
     pub address: [u8; 4],
     // whether a segment record was read
     pub begun: bool,
-}
-
-pub struct Taken {
-    pub segment: Segment,
-    // 0 where the record was taken
-    pub refusal: u32,
 }
 
 // No segment was read, and no station is there.
@@ -41,15 +34,6 @@ pub fn no_segment() -> Segment
         address: address,
         begun: false,
     }
-}
-
-// The segment with its stations after a step.
-pub fn with_stations(segment: Segment, stations: [Station; 16]) -> Segment
-    ensures { λ r. ⌜ r ≡ withStations segment stations ⌝ }
-{
-    let mut after = segment;
-    after.stations = stations;
-    after
 }
 
 // How long the latest advertisement frame of a station is; past the end nothing was sent.

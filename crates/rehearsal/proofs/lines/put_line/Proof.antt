@@ -1,8 +1,8 @@
 -- `rehearsal::lines::put_line` meets its contract.
 -- Assumes nothing.
-use lib.ListN.{length-map}
 use Rattle.text.proofs.Appending.{then}
 use Rattle.rehearsal.specs.Lines.{lineOf}
+use Rattle.rehearsal.specs.Turn.{segmentOf}
 use Rattle.rehearsal.proofs.Spelled.{prints, line-short}
 use borrow.Author.Needs.{needs}
 use Rattle.rehearsal.proofs.lines.put_line.Statement.{statement}
@@ -26,10 +26,10 @@ returns c =
     let last = c .before .before in
     let letters = last .before .before .before .before in
     let first = letters .before .before .before .before in
-    let start = first .before .before .before .before in
+    let start = first .before .before .before in
     prints (then (then (first .put-decimal .ensures) (letters .put-letters .ensures)) (last .put-byte .ensures))
-    (line-short (start .args .number) (start .args .segment) (start .fits .number .fits)
-    (simp length-map at (start .good .1 .1 .0 .1 .1 .0 .1 .0 .1)))
+    (line-short (start .args .number) (segmentOf (start .args .stations) (start .args .reading)) (start .fits .number .fits)
+    (start .good .1 .1 .0 .1 .0 .1))
     (start .pre)
 
 pub put-line-spec : {M : Type 1} → statement M

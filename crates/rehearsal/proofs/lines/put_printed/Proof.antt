@@ -1,5 +1,6 @@
 -- `rehearsal::lines::put_printed` meets its contract.
 -- Assumes nothing.
+use Rattle.rehearsal.specs.Turn.{segmentOf}
 use Rattle.rehearsal.proofs.Stepping.{silent-kind, line-kind}
 use borrow.Author.Needs.{needs}
 use Rattle.rehearsal.proofs.lines.put_printed.Statement.{statement}
@@ -11,7 +12,7 @@ kind-number-requires c κs = search needs
 returns : tie.Need-returns
 returns c =
     let a = c .before .before .before .args in
-    silent-kind (a .kind) (a .number) (a .segment) _ (c .before .kind-number .ensures) _ (c .if1 .taken)
+    silent-kind (a .kind) (a .number) (segmentOf (a .stations) (a .reading)) _ (c .before .kind-number .ensures) _ (c .if1 .taken)
 
 put-line-requires : tie.Need-put-line-requires
 put-line-requires c κs = search needs
@@ -24,7 +25,7 @@ returns-2 c =
     let at-line = c .before .before in
     let at-if1 = at-line .before .before in
     let a = at-if1 .before .before .before .args in
-    line-kind (a .kind) (a .number) (a .segment) _ (at-if1 .before .kind-number .ensures) _ _ _ (at-if1 .if1 .left)
+    line-kind (a .kind) (a .number) (segmentOf (a .stations) (a .reading)) _ (at-if1 .before .kind-number .ensures) _ _ _ (at-if1 .if1 .left)
     (at-line .put-line .ensures)
 
 pub put-printed-spec : {M : Type 1} → statement M

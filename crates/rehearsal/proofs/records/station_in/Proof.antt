@@ -1,8 +1,10 @@
--- `rehearsal::records::station_in` meets its contract: the station of what making it leaves.
+-- `rehearsal::records::station_in` meets its contract.
 -- Assumes nothing.
+use mathlib.Core.List.{[]}
 use denote.Ref.{now}
-use borrow.Author.Needs.{needs}
+use Rattle.rehearsal.specs.Turn.{segmentOf}
 use Rattle.rehearsal.proofs.Taking.{station-made}
+use borrow.Author.Needs.{needs}
 use Rattle.rehearsal.proofs.records.station_in.Statement.{statement}
 use Rattle.rehearsal.proofs.records.station_in.Tie as tie
 
@@ -38,7 +40,8 @@ returns c =
     let at-made = c .before in
     let at-number = at-made .before .before .before .before .before in
     let a = at-number .before .before .before .before .before .before .args in
-    station-made (a .segment) (now (a .body)) _ _ (at-number .number .ensures) (at-made .new-station .ensures)
+    station-made (segmentOf [] (a .reading)) (now (a .body)) _ _ (at-number .number .ensures)
+    (at-made .new-station .ensures)
 
 pub station-in-spec : {M : Type 1} → statement M
 station-in-spec =

@@ -1,4 +1,4 @@
--- `rehearsal::records::kind_record` meets its contract.
+-- `rehearsal::refusals::kind_refusal` meets its contract.
 -- Assumes nothing.
 use mathlib.Core.Path.{refl}
 use denote.Ref.{now}
@@ -13,8 +13,8 @@ use Rattle.rehearsal.specs.declared.kinds.Kind.the-variants.{
 }
 use Rattle.rehearsal.proofs.Taking.{of-kind, body-fits}
 use borrow.Author.Needs.{needs}
-use Rattle.rehearsal.proofs.records.kind_record.Statement.{statement}
-use Rattle.rehearsal.proofs.records.kind_record.Tie as tie
+use Rattle.rehearsal.proofs.refusals.kind_refusal.Statement.{statement}
+use Rattle.rehearsal.proofs.refusals.kind_refusal.Tie as tie
 
 enum-told : tie.Need-enum-told
 enum-told c = search needs
@@ -22,111 +22,102 @@ enum-told c = search needs
 enum-told-2 : tie.Need-enum-told-2
 enum-told-2 c = search needs
 
-segment-record-requires : tie.Need-segment-record-requires
-segment-record-requires c κs =
+segment-refusal-requires : tie.Need-segment-refusal-requires
+segment-refusal-requires c κs =
     let start = c .before .before .before in
     body-fits (start .args .kind) NewSegment _ (c .enum-told2 .given .1) (start .pre)
 
 enum-told-3 : tie.Need-enum-told-3
 enum-told-3 c = search needs
 
-station-record-requires : tie.Need-station-record-requires
-station-record-requires c κs =
+station-refusal-requires : tie.Need-station-refusal-requires
+station-refusal-requires c κs =
     let start = c .before .before .before in
     body-fits (start .args .kind) NewStation _ (c .enum-told3 .given .1) (start .pre)
 
 enum-told-4 : tie.Need-enum-told-4
 enum-told-4 c = search needs
 
-startup-record-requires : tie.Need-startup-record-requires
-startup-record-requires c κs =
+number-refusal-requires : tie.Need-number-refusal-requires
+number-refusal-requires c κs =
     let start = c .before .before .before in
     body-fits (start .args .kind) Startup _ (c .enum-told4 .given .1) (start .pre)
 
 enum-told-5 : tie.Need-enum-told-5
 enum-told-5 c = search needs
 
-shutdown-record-requires : tie.Need-shutdown-record-requires
-shutdown-record-requires c κs =
+number-refusal-requires-2 : tie.Need-number-refusal-requires-2
+number-refusal-requires-2 c κs =
     let start = c .before .before .before in
     body-fits (start .args .kind) Shutdown _ (c .enum-told5 .given .1) (start .pre)
 
 enum-told-6 : tie.Need-enum-told-6
 enum-told-6 c = search needs
 
-clock-record-requires : tie.Need-clock-record-requires
-clock-record-requires c κs =
-    let start = c .before .before .before in
-    body-fits (start .args .kind) Clock _ (c .enum-told6 .given .1) (start .pre)
-
 enum-told-7 : tie.Need-enum-told-7
 enum-told-7 c = search needs
 
-deliver-record-requires : tie.Need-deliver-record-requires
-deliver-record-requires c κs =
+deliver-refusal-requires : tie.Need-deliver-refusal-requires
+deliver-refusal-requires c κs =
     let start = c .before .before .before in
     body-fits (start .args .kind) Deliver _ (c .enum-told7 .given .1) (start .pre)
 
 returns : tie.Need-returns
 returns c =
     let a = c .before .before .before .args in
-    of-kind (a .segment) (now (a .body)) (a .kind) Unknown _ (c .enum-told .given .1) refl
+    of-kind (a .used) (a .stations) (now (a .body)) (a .kind) Unknown _ (c .enum-told .given .1) refl
 
 returns-2 : tie.Need-returns-2
 returns-2 c =
     let told = c .before in
     let a = told .before .before .before .args in
-    of-kind (a .segment) (now (a .body)) (a .kind) NewSegment _ (told .enum-told2 .given .1)
-    (c .segment-record .ensures)
+    of-kind (a .used) (a .stations) (now (a .body)) (a .kind) NewSegment _ (told .enum-told2 .given .1) (c .segment-refusal .ensures)
 
 returns-3 : tie.Need-returns-3
 returns-3 c =
     let told = c .before in
     let a = told .before .before .before .args in
-    of-kind (a .segment) (now (a .body)) (a .kind) NewStation _ (told .enum-told3 .given .1)
-    (c .station-record .ensures)
+    of-kind (a .used) (a .stations) (now (a .body)) (a .kind) NewStation _ (told .enum-told3 .given .1) (c .station-refusal .ensures)
 
 returns-4 : tie.Need-returns-4
 returns-4 c =
     let told = c .before in
     let a = told .before .before .before .args in
-    of-kind (a .segment) (now (a .body)) (a .kind) Startup _ (told .enum-told4 .given .1) (c .startup-record .ensures)
+    of-kind (a .used) (a .stations) (now (a .body)) (a .kind) Startup _ (told .enum-told4 .given .1) (c .number-refusal .ensures)
 
 returns-5 : tie.Need-returns-5
 returns-5 c =
     let told = c .before in
     let a = told .before .before .before .args in
-    of-kind (a .segment) (now (a .body)) (a .kind) Shutdown _ (told .enum-told5 .given .1) (c .shutdown-record .ensures)
+    of-kind (a .used) (a .stations) (now (a .body)) (a .kind) Shutdown _ (told .enum-told5 .given .1) (c .number-refusal2 .ensures)
 
 returns-6 : tie.Need-returns-6
 returns-6 c =
-    let told = c .before in
-    let a = told .before .before .before .args in
-    of-kind (a .segment) (now (a .body)) (a .kind) Clock _ (told .enum-told6 .given .1) (c .clock-record .ensures)
+    let a = c .before .before .before .args in
+    of-kind (a .used) (a .stations) (now (a .body)) (a .kind) Clock _ (c .enum-told6 .given .1) refl
 
 returns-7 : tie.Need-returns-7
 returns-7 c =
     let told = c .before in
     let a = told .before .before .before .args in
-    of-kind (a .segment) (now (a .body)) (a .kind) Deliver _ (told .enum-told7 .given .1) (c .deliver-record .ensures)
+    of-kind (a .used) (a .stations) (now (a .body)) (a .kind) Deliver _ (told .enum-told7 .given .1) (c .deliver-refusal .ensures)
 
-pub kind-record-spec : {M : Type 1} → statement M
-kind-record-spec =
+pub kind-refusal-spec : {M : Type 1} → statement M
+kind-refusal-spec =
     tie.close
     (tie.spec
     enum-told
     enum-told-2
-    segment-record-requires
+    segment-refusal-requires
     enum-told-3
-    station-record-requires
+    station-refusal-requires
     enum-told-4
-    startup-record-requires
+    number-refusal-requires
     enum-told-5
-    shutdown-record-requires
+    number-refusal-requires-2
     enum-told-6
-    clock-record-requires
     enum-told-7
-    deliver-record-requires
+    deliver-refusal-requires
     returns
     returns-2
     returns-3

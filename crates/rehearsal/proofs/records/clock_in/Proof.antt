@@ -1,12 +1,9 @@
--- `rehearsal::records::clock_record` meets its contract.
+-- `rehearsal::records::clock_in` meets its contract.
 -- Assumes nothing.
-use mathlib.Core.Path.{ap, _∙_}
 use native.Mathlib.Omega.{arith}
-use Rattle.rehearsal.specs.declared.segment.Segment.{Segment}
-use Rattle.rehearsal.specs.Record.{withStations}
 use borrow.Author.Needs.{needs}
-use Rattle.rehearsal.proofs.records.clock_record.Statement.{statement}
-use Rattle.rehearsal.proofs.records.clock_record.Tie as tie
+use Rattle.rehearsal.proofs.records.clock_in.Statement.{statement}
+use Rattle.rehearsal.proofs.records.clock_in.Tie as tie
 
 shared-slice-read-ticks : tie.Need-shared-slice-read-ticks
 shared-slice-read-ticks c = search needs
@@ -29,17 +26,11 @@ add-ticks c = omega (arith, c .shared-slice-known3 .given 0, c .shared-slice-kno
 pass-all-in-requires : tie.Need-pass-all-in-requires
 pass-all-in-requires c κs = search needs
 
-with-stations-requires : tie.Need-with-stations-requires
-with-stations-requires c κs = search needs
-
 returns : tie.Need-returns
-returns c =
-    let a = c .before .before .before .before .before .before .args in
-    ap (λ (s : Segment). record { segment = s; refusal = 0 })
-    (c .with-stations .ensures ∙ ap (withStations (a .segment)) (c .before .pass-all-in .ensures))
+returns c = search needs
 
-pub clock-record-spec : {M : Type 1} → statement M
-clock-record-spec =
+pub clock-in-spec : {M : Type 1} → statement M
+clock-in-spec =
     tie.close
     (tie.spec
     shared-slice-read-ticks
@@ -49,5 +40,4 @@ clock-record-spec =
     cast-ticks-2
     add-ticks
     pass-all-in-requires
-    with-stations-requires
     returns)
