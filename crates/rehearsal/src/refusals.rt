@@ -18,10 +18,12 @@ fn segment_refusal(body: &[u8]) -> u32
     requires { ⌜ 6 ≤ length (now body) ⌝ }
     ensures { λ r. ⌜ r ≡ firstRefusal (segmentChecks (now (body .entry))) ⌝ }
 {
-    if body[0] == 0 {
+    let vrid = body[0];
+    let interval = body[1];
+    if vrid == 0 {
         return 14;
     }
-    if body[1] == 0 {
+    if interval == 0 {
         return 16;
     }
     0
@@ -32,13 +34,15 @@ fn station_refusal(used: usize, body: &[u8]) -> u32
     requires { ⌜ 6 ≤ length (now body) ⌝ }
     ensures { λ r. ⌜ r ≡ firstRefusal (stationChecks used (now (body .entry))) ⌝ }
 {
+    let priority = body[0];
+    let preempt = body[1];
     if used >= 16 {
         return 27;
     }
-    if body[0] == 0 {
+    if priority == 0 {
         return 15;
     }
-    if body[1] > 1 {
+    if preempt > 1 {
         return 29;
     }
     0
