@@ -85,7 +85,7 @@ decimal-length (suc k) n h =
     let rest = decimal-length k (n / 10) (omega arith) in
     rw (decimal-more n tens) (omega (arith, length-append (decimalOf (n / 10)) ((48 + n % 10) ∷ []))))
 
-pub decimal-short : (n : ℕ) → n < 2 ^ 32 → length (decimalOf n) ≤ 10
+decimal-short : (n : ℕ) → n < 2 ^ 32 → length (decimalOf n) ≤ 10
 decimal-short n h = decimal-length 9 n (omega arith)
 
 letters-length : (used : ℕ) (l : List Station) → length l ≡ 16 → length (lettersOf used l) ≤ 16

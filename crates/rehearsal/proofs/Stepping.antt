@@ -7,9 +7,8 @@ use Prim.Native.Nat.{ℕ, _+_, _-_, _≤_, _<_}
 use native.Mathlib.Nat.{sub-zero}
 use native.Mathlib.Omega.{arith}
 use lib.Dec.{eqb, ltb, leb}
-use lib.ListN.{length, take, drop, getD, length-append, length-drop, length-take}
-use lib.Seq.{take-all}
-use borrow.Author.Tests.{lt-ltb, le-ltb, eq-eqb, ne-eqb, le-leb, lt-leb, leb-true, leb-false, not-false}
+use lib.ListN.{length, drop, getD, length-append, length-drop, length-take}
+use borrow.Author.Tests.{lt-ltb, le-ltb, leb-true, leb-false, not-false}
 use borrow.Rule.Slice.PartMut.{midOf, putMid}
 use Rattle.wire.specs.Writing.{over}
 use Rattle.wire.proofs.Tested.{second-fails}
@@ -19,24 +18,13 @@ use Rattle.stations.specs.Making.{stationRefusal, madeOf}
 use Rattle.stations.specs.List.{nowhere}
 use Rattle.rehearsal.specs.declared.segment.Segment.{Segment}
 use Rattle.rehearsal.specs.declared.kinds.Kind.{Kind}
-use Rattle.rehearsal.specs.declared.kinds.Kind.the-variants.{
-  Unknown,
-  NewSegment,
-  NewStation,
-  Startup,
-  Shutdown,
-  Clock,
-  Deliver,
-}
 use Rattle.rehearsal.specs.declared.run.Progress.{Progress}
 use Rattle.rehearsal.specs.declared.run.Ran.{Ran}
-use Rattle.rehearsal.specs.Kinds.{kindOf, kindNumber, bodyLength}
+use Rattle.rehearsal.specs.Kinds.{kindOf, kindNumber}
 use Rattle.rehearsal.specs.Record.{refusalOf}
 use Rattle.rehearsal.specs.Lines.{Printed, lineOf, refusedLine, printedOf}
 use Rattle.rehearsal.specs.Run.{
   exhausted,
-  Step,
-  ended,
   ends,
   recordStep,
   stepOf,
@@ -53,17 +41,8 @@ pub no-station : (made : Stepped) (address : List ℕ) → made ≡ madeOf 0 0 0
 unfolding madeOf stationRefusal
 no-station made address e = ap (λ (m : Stepped). m .station) e
 
-pub body-short : (kind : Kind) → bodyLength kind ≤ 6
-body-short Unknown = omega arith
-body-short NewSegment = omega arith
-body-short NewStation = omega arith
-body-short Startup = omega arith
-body-short Shutdown = omega arith
-body-short Clock = omega arith
-body-short Deliver = omega arith
-
 -- nothing is printed
-pub prints-nothing : (room : List ℕ) → Printed [] room 0 room
+prints-nothing : (room : List ℕ) → Printed [] room 0 room
 prints-nothing room = record { written-is = refl; room-is = refl; fits = omega arith }
 
 pub printed-as : {text other before after : List ℕ} {written : ℕ} → text ≡ other → Printed text before written after
@@ -156,7 +135,7 @@ pub mid-whole : (at : ℕ) (room : List ℕ) → at ≤ length room
     → length room - at ≤ length (midOf at (length room - at) room)
 mid-whole at room h = omega (arith, length-take (length room - at) (drop at room), length-drop at room)
 
-pub mid-long : (at : ℕ) (room : List ℕ) → length (midOf at (length room - at) room) ≤ length room - at
+mid-long : (at : ℕ) (room : List ℕ) → length (midOf at (length room - at) room) ≤ length room - at
 mid-long at room = omega (arith, length-take (length room - at) (drop at room))
 
 pub begun : (script : List ℕ) (p : Progress) (room : List ℕ) → SoFar script p room p 0 room

@@ -3,11 +3,11 @@
 use mathlib.Core.Path.{_≡_, refl, sym, ap, _∙_}
 use mathlib.Core.Bool.{Bool, cond, not}
 use mathlib.Core.List.{List, [], _∷_}
-use Prim.Native.Nat.{ℕ, zero, suc, _+_, _≤_, _<_}
+use Prim.Native.Nat.{ℕ, zero, suc, _≤_, _<_}
 use native.Mathlib.Omega.{arith}
 use lib.Dec.{eqb}
 use lib.ListN.{length, getD, set, List·getD-eq-default}
-use borrow.Author.Tests.{lt-ltb, le-ltb, eq-eqb, ne-eqb, ltb-false}
+use borrow.Author.Tests.{lt-ltb, le-ltb, ne-eqb, ltb-false}
 use Rattle.sums.specs.Total.{numberOf}
 use Rattle.wire.specs.Check.{firstRefusal}
 use Rattle.wire.proofs.Checks.{refusal-after, refusal-before, passed as passed-checks}
@@ -27,7 +27,7 @@ use Rattle.rehearsal.specs.declared.kinds.Kind.the-variants.{
   Deliver,
 }
 use Rattle.rehearsal.specs.Kinds.{kindOf, kindNumber, bodyLength}
-use Rattle.rehearsal.specs.Checks.{recordChecks, stationChecks, numberChecks, deliverChecks, kindChecks}
+use Rattle.rehearsal.specs.Checks.{recordChecks, deliverChecks, kindChecks}
 use Rattle.rehearsal.specs.Record.{stationIn, afterRecord, refusalOf}
 use Rattle.rehearsal.proofs.Stored.{read-within}
 

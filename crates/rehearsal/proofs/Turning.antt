@@ -50,9 +50,6 @@ use Rattle.rehearsal.proofs.Taking.{record-whole}
 
 -- what a record that is not refused has passed
 module _ (segment : Segment) (kind : Kind) (body : List ℕ) (e : refusalOf segment kind body ≡ 0) where
-  abbrev own : ℕ
-  own = firstRefusal (kindChecks kind (segment .used) (segment .stations) body)
-
   every-passed : firstRefusal (recordChecks (segment .begun) kind (length body)) ≡ 0
   unfolding refusalOf
   every-passed =
@@ -60,7 +57,7 @@ module _ (segment : Segment) (kind : Kind) (body : List ℕ) (e : refusalOf segm
       dite (ℕ-discrete (firstRefusal checks) 0) (λ z. z)
       (λ n. absurd (n (sym (refusal-before checks (kindChecks kind (segment .used) (segment .stations) body) n) ∙ e)))
 
-  own-passed : own ≡ 0
+  own-passed : firstRefusal (kindChecks kind (segment .used) (segment .stations) body) ≡ 0
   unfolding refusalOf
   own-passed =
       let checks = recordChecks (segment .begun) kind (length body) in
@@ -69,7 +66,7 @@ module _ (segment : Segment) (kind : Kind) (body : List ℕ) (e : refusalOf segm
   pub body-whole : bodyLength kind ≤ length body
   body-whole = record-whole (segment .begun) kind (length body) every-passed
 
-pub new-fits : (segment : Segment) (kind : Kind) (body : List ℕ)
+new-fits : (segment : Segment) (kind : Kind) (body : List ℕ)
     → firstRefusal (kindChecks kind (segment .used) (segment .stations) body) ≡ 0 → newNumber kind (segment .used) ≤ 15
 new-fits segment Unknown body e = omega arith
 new-fits segment NewSegment body e = omega arith
@@ -88,7 +85,7 @@ pub number-fits : (segment : Segment) (kind : Kind) (body : List ℕ) → refusa
 number-fits segment kind body e = new-fits segment kind body (own-passed segment kind body e)
 
 -- what a record says of the segment does not depend on the stations
-pub read-alike : (kind : Kind) (stations : List Station) (reading : Reading) (body : List ℕ)
+read-alike : (kind : Kind) (stations : List Station) (reading : Reading) (body : List ℕ)
     → taking (progressOf [] reading) kind body ≡ taking (progressOf stations reading) kind body
 read-alike Unknown stations reading body = refl
 read-alike NewSegment stations reading body = refl
@@ -98,24 +95,16 @@ read-alike Shutdown stations reading body = refl
 read-alike Clock stations reading body = refl
 read-alike Deliver stations reading body = refl
 
--- kinds 1 and 2, by their number
-known-segment : (kind : Kind) → kindNumber kind ≡ 1 → kind ≡ NewSegment
-known-segment Unknown e = absurd (omega arith)
-known-segment NewSegment e = refl
-known-segment NewStation e = absurd (omega arith)
-known-segment Startup e = absurd (omega arith)
-known-segment Shutdown e = absurd (omega arith)
-known-segment Clock e = absurd (omega arith)
-known-segment Deliver e = absurd (omega arith)
-
-known-station : (kind : Kind) → kindNumber kind ≡ 2 → kind ≡ NewStation
-known-station Unknown e = absurd (omega arith)
-known-station NewSegment e = absurd (omega arith)
-known-station NewStation e = refl
-known-station Startup e = absurd (omega arith)
-known-station Shutdown e = absurd (omega arith)
-known-station Clock e = absurd (omega arith)
-known-station Deliver e = absurd (omega arith)
+-- a kind is told by its number
+by-number : (kind : Kind) → kind ≡ kindOf (kindNumber kind)
+unfolding kindOf
+by-number Unknown = refl
+by-number NewSegment = refl
+by-number NewStation = refl
+by-number Startup = refl
+by-number Shutdown = refl
+by-number Clock = refl
+by-number Deliver = refl
 
 -- every other record says nothing of the segment
 silent : (kind : Kind) (reading : Reading) (body : List ℕ) → ¬ (kindNumber kind ≡ 1) → ¬ (kindNumber kind ≡ 2)
@@ -130,11 +119,16 @@ silent Clock reading body a b = refl
 silent Deliver reading body a b = refl
 
 module _ (kind : Kind) (n : ℕ) (is-n : n ≡ kindNumber kind) where
+  kind-is : (number : ℕ) → n ≡ number → kind ≡ kindOf number
+  kind-is number e = by-number kind ∙ ap kindOf (sym is-n ∙ e)
+
   pub segment-kind : n ≡ 1 → kind ≡ NewSegment
-  segment-kind e = known-segment kind (sym is-n ∙ e)
+  unfolding kindOf
+  segment-kind e = kind-is 1 e
 
   pub station-kind : n ≡ 2 → kind ≡ NewStation
-  station-kind e = known-station kind (sym is-n ∙ e)
+  unfolding kindOf
+  station-kind e = kind-is 2 e
 
   pub segment-body : (long : ℕ) → n ≡ 1 → bodyLength kind ≤ long → 6 ≤ long
   segment-body long e h = rw (segment-kind e) at h
