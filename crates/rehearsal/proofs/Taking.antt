@@ -1,7 +1,7 @@
 -- What a record of each kind comes to: what the functions of `records` cite.
 -- Assumes nothing.
 use mathlib.Core.Path.{_≡_, refl, sym, ap, _∙_}
-use mathlib.Core.Bool.{Bool, cond, not}
+use mathlib.Core.Bool.{Bool, true, false, cond, not, Bool·beq}
 use mathlib.Core.List.{List, [], _∷_}
 use Prim.Native.Nat.{ℕ, zero, suc, _≤_, _<_}
 use native.Mathlib.Omega.{arith}
@@ -41,6 +41,13 @@ unknown-kind (suc byte) a b c d e f =
     sym (List·getD-eq-default
     (Unknown ∷ (NewSegment ∷ (NewStation ∷ (Startup ∷ (Shutdown ∷ (Clock ∷ (Deliver ∷ []))))))) Unknown past)
 
+-- a second segment, or a first record that is none: both tests come out alike
+tests-alike : (begun segment : Bool) → cond begun segment (not segment) ≡ Bool·beq begun segment
+tests-alike true true = refl
+tests-alike true false = refl
+tests-alike false true = refl
+tests-alike false false = refl
+
 -- 23 to 25
 module _ (begun : Bool) (kind : Kind) (left number long : ℕ) (is-number : number ≡ kindNumber kind)
     (known : ¬ (number ≡ 0)) (is-long : long ≡ bodyLength kind) where
@@ -48,10 +55,10 @@ module _ (begun : Bool) (kind : Kind) (left number long : ℕ) (is-number : numb
   refusal-cut h = rw (← is-number, ne-eqb number 0 known, ← is-long, lt-ltb left long h)
 
   -- 25, or none, by the test that 25 goes by
-  pub refusal-last : (t : Bool) → long ≤ left → cond begun (eqb number 1) (not (eqb number 1)) ≡ t
+  pub refusal-last : (t : Bool) → long ≤ left → Bool·beq begun (eqb number 1) ≡ t
       → cond t 25 0 ≡ firstRefusal (recordChecks begun kind left)
   refusal-last t h e =
-      rw (← is-number, ne-eqb number 0 known, ← is-long, le-ltb left long h) (ap (λ (x : Bool). cond x 25 0) (sym e))
+      rw (← is-number, ne-eqb number 0 known, ← is-long, le-ltb left long h) (ap (λ (x : Bool). cond x 25 0) (sym (tests-alike begun (eqb number 1) ∙ e)))
 
 -- the station that a body describes
 pub station-made : (segment : Segment) (body : List ℕ) (primary : ℕ) (made : Stepped)

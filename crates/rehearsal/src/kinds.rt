@@ -70,13 +70,9 @@ pub fn record_refusal(begun: bool, kind: Kind, left: usize) -> u32
     if left < body_length(kind) {
         return 24;
     }
-    if begun {
-        if number == 1 {
-            return 25;
-        }
-        return 0;
-    }
-    if number != 1 {
+    let segment = number == 1;
+    // a second segment, or a first record that is none
+    if begun == segment {
         return 25;
     }
     0

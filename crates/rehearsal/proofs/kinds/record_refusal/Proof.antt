@@ -2,7 +2,7 @@
 -- Assumes nothing.
 use mathlib.Core.Path.{sym, _∙_}
 use mathlib.Core.Bool.{true, false}
-use borrow.Author.Tests.{eq-eqb, ne-eqb}
+use borrow.Author.Tests.{eq-eqb}
 use Rattle.rehearsal.proofs.Taking.{refusal-cut, refusal-last}
 use borrow.Author.Needs.{needs}
 use Rattle.rehearsal.proofs.kinds.record_refusal.Statement.{statement}
@@ -27,49 +27,21 @@ returns-2 c =
 
 returns-3 : tie.Need-returns-3
 returns-3 c =
-    let at-length = c .before .before .before in
+    let at-length = c .before .before in
     let at-number = at-length .before .before in
     let a = at-number .before .args in
     refusal-last (a .begun) (a .kind) (a .left) _ _ (at-number .kind-number .ensures) (at-length .before .if1 .left)
-    (at-length .body-length .ensures) true (c .before .before .if2 .left)
-    (rw (c .before .if3 .taken, eq-eqb _ _ (c .if4 .taken)))
+    (at-length .body-length .ensures) true (c .before .if2 .left) (c .if3 .taken)
 
 returns-4 : tie.Need-returns-4
 returns-4 c =
-    let at-length = c .before .before .before in
+    let at-length = c .before .before in
     let at-number = at-length .before .before in
     let a = at-number .before .args in
     refusal-last (a .begun) (a .kind) (a .left) _ _ (at-number .kind-number .ensures) (at-length .before .if1 .left)
-    (at-length .body-length .ensures) false (c .before .before .if2 .left)
-    (rw (c .before .if3 .taken, ne-eqb _ _ (c .if4 .left)))
-
-returns-5 : tie.Need-returns-5
-returns-5 c =
-    let at-length = c .before .before .before in
-    let at-number = at-length .before .before in
-    let a = at-number .before .args in
-    refusal-last (a .begun) (a .kind) (a .left) _ _ (at-number .kind-number .ensures) (at-length .before .if1 .left)
-    (at-length .body-length .ensures) true (c .before .before .if2 .left)
-    (rw (c .before .if3 .left, ne-eqb _ _ (c .if5 .taken)))
-
-returns-6 : tie.Need-returns-6
-returns-6 c =
-    let at-length = c .before .before .before in
-    let at-number = at-length .before .before in
-    let a = at-number .before .args in
-    refusal-last (a .begun) (a .kind) (a .left) _ _ (at-number .kind-number .ensures) (at-length .before .if1 .left)
-    (at-length .body-length .ensures) false (c .before .before .if2 .left)
-    (rw (c .before .if3 .left, eq-eqb _ _ (c .if5 .left)))
+    (at-length .body-length .ensures) false (c .before .if2 .left) (c .if3 .left)
 
 pub record-refusal-spec : {M : Type 1} → statement M
 record-refusal-spec =
     tie.close
-    (tie.spec
-    kind-number-requires
-    returns
-    body-length-requires
-    returns-2
-    returns-3
-    returns-4
-    returns-5
-    returns-6)
+    (tie.spec kind-number-requires returns body-length-requires returns-2 returns-3 returns-4)
