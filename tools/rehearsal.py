@@ -148,8 +148,11 @@ def main(emulator, program, *arguments):
     try:
         content = Path(options.script).read_bytes() if options.script else sys.stdin.buffer.read()
         return rehearse(command, content, options.words)
-    except (Failed, OSError) as trouble:
+    except Failed as trouble:
         print(f"rehearse: {trouble}", file=sys.stderr)
+        return 2
+    except OSError as trouble:
+        print(f"rehearse: {trouble.filename}: {trouble.strerror}", file=sys.stderr)
         return 2
 
 
