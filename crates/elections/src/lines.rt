@@ -3,7 +3,7 @@ use crate::segment::Segment;
 use crate::segment::used_of;
 use router::record::State;
 use router::step::state_number;
-use stations::station::Station;
+use station::station::Station;
 use text::put_byte;
 use text::put_decimal;
 ghost use Prim.Native.Nat.{_<_, _≤_};

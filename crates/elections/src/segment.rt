@@ -1,10 +1,10 @@
 // The stations of a record, as far as each has come, and the deliveries among them.
 use records::read_part;
+use station::making::new_station;
+use station::station::Station;
 use stations::lent::clock_in;
 use stations::lent::deliver_in;
 use stations::lent::startup_in;
-use stations::making::new_station;
-use stations::station::Station;
 use sums::number;
 use wire::reading::word;
 ghost use Prim.Native.Nat.{_<_, _≤_};

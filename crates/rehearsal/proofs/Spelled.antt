@@ -14,7 +14,7 @@ use Rattle.text.specs.Appended.{puts, Appended}
 use Rattle.text.specs.Digits.{decimalOf}
 use Rattle.text.proofs.Appending.{length-puts, appended}
 use Rattle.text.proofs.Spelling.{decimal-one, decimal-more}
-use Rattle.stations.specs.declared.station.Station.{Station}
+use Rattle.station.specs.declared.station.Station.{Station}
 use Rattle.rehearsal.specs.declared.segment.Segment.{Segment}
 use Rattle.rehearsal.specs.Lines.{Printed, letterOf, lettersOf, lineOf, refusedLine}
 

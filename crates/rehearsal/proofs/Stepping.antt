@@ -13,8 +13,8 @@ use borrow.Rule.Slice.PartMut.{midOf, putMid}
 use Rattle.wire.specs.Writing.{over}
 use Rattle.wire.proofs.Tested.{second-fails}
 use Rattle.output.proofs.Parts.{part-behind}
-use Rattle.stations.specs.declared.station.Stepped.{Stepped}
-use Rattle.stations.specs.Making.{stationRefusal, madeOf}
+use Rattle.station.specs.declared.station.Stepped.{Stepped}
+use Rattle.station.specs.Making.{stationRefusal, madeOf}
 use Rattle.stations.specs.List.{nowhere}
 use Rattle.rehearsal.specs.declared.segment.Segment.{Segment}
 use Rattle.rehearsal.specs.declared.kinds.Kind.{Kind}

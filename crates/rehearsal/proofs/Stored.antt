@@ -5,7 +5,7 @@ use mathlib.Core.List.{List, [], _∷_}
 use Prim.Native.Nat.{ℕ, zero, suc, _<_}
 use native.Mathlib.Omega.{arith}
 use lib.ListN.{length, getD}
-use Rattle.stations.specs.declared.station.Station.{Station}
+use Rattle.station.specs.declared.station.Station.{Station}
 
 -- within a list what is read does not depend on what is read past its end
 pub read-within : (l : List Station) (at : ℕ) (d e : Station) → at < length l → getD l at d ≡ getD l at e

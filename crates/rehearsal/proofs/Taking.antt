@@ -11,9 +11,9 @@ use borrow.Author.Tests.{lt-ltb, le-ltb, ne-eqb, ltb-false}
 use Rattle.sums.specs.Total.{numberOf}
 use Rattle.wire.specs.Check.{firstRefusal}
 use Rattle.wire.proofs.Checks.{refusal-after, refusal-before, passed as passed-checks}
-use Rattle.stations.specs.declared.station.Station.{Station}
-use Rattle.stations.specs.declared.station.Stepped.{Stepped}
-use Rattle.stations.specs.Making.{madeOf}
+use Rattle.station.specs.declared.station.Station.{Station}
+use Rattle.station.specs.declared.station.Stepped.{Stepped}
+use Rattle.station.specs.Making.{madeOf}
 use Rattle.stations.specs.List.{nowhere}
 use Rattle.rehearsal.specs.declared.segment.Segment.{Segment}
 use Rattle.rehearsal.specs.declared.kinds.Kind.{Kind}

@@ -9,7 +9,7 @@ use Rattle.wire.specs.Writing.{over}
 use Rattle.router.specs.declared.record.State.{State}
 use Rattle.router.specs.declared.record.State.the-variants.{Initialize, Backup, Master}
 use Rattle.text.specs.Digits.{decimalOf}
-use Rattle.stations.specs.declared.station.Station.{Station}
+use Rattle.station.specs.declared.station.Station.{Station}
 use Rattle.rehearsal.specs.declared.segment.Segment.{Segment}
 use Rattle.rehearsal.specs.declared.kinds.Kind.{Kind}
 use Rattle.rehearsal.specs.Kinds.{kindNumber}

@@ -6,8 +6,9 @@ use lib.Dec.{eqb}
 use lib.ListN.{length, getD, set}
 use Rattle.sums.specs.Total.{numberOf}
 use Rattle.wire.specs.Check.{firstRefusal}
-use Rattle.stations.specs.declared.station.Station.{Station}
-use Rattle.stations.specs.Making.{madeOf}
+use Rattle.station.specs.declared.station.Station.{Station}
+use Rattle.station.specs.Making.{madeOf}
+use Rattle.station.specs.Passing.{freshRoom}
 use Rattle.stations.specs.List.{startedAt, shutAt, deliveredAt, allPassed}
 use Rattle.rehearsal.specs.declared.segment.Segment.{Segment}
 use Rattle.rehearsal.specs.declared.kinds.Kind.{Kind}
@@ -20,7 +21,6 @@ use Rattle.rehearsal.specs.declared.kinds.Kind.the-variants.{
   Clock,
   Deliver,
 }
-use Rattle.stations.specs.Passing.{freshRoom}
 use Rattle.rehearsal.specs.Checks.{recordChecks, kindChecks}
 
 -- "1 segment (VRID, A, one virtual address: 6 bytes)"

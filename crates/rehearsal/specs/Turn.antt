@@ -4,7 +4,7 @@ use mathlib.Core.List.{List, []}
 use mathlib.Core.Bool.{Bool, cond}
 use lib.Dec.{eqb, ltb}
 use lib.ListN.{length, drop, getD}
-use Rattle.stations.specs.declared.station.Station.{Station}
+use Rattle.station.specs.declared.station.Station.{Station}
 use Rattle.rehearsal.specs.declared.segment.Segment.{Segment}
 use Rattle.rehearsal.specs.declared.kinds.Kind.{Kind}
 use Rattle.rehearsal.specs.declared.kinds.Kind.the-variants.{Unknown}

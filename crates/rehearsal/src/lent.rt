@@ -1,7 +1,7 @@
 // The steps on the stations in their lent list. A script does not look at their answers.
-use stations::station::Station;
+use station::station::Station;
 ghost use mathlib.Core.Path.{_≡_};
-ghost use Rattle.stations.specs.Passing.{freshRoom};
+ghost use Rattle.station.specs.Passing.{freshRoom};
 ghost use Rattle.stations.specs.List.{startedAt, shutAt, deliveredAt};
 
 // Starts up the station of a number; past the end nothing is done.

@@ -3,7 +3,7 @@ use crate::kinds::Kind;
 use crate::kinds::kind_number;
 use crate::reading::Reading;
 use router::record::State;
-use stations::station::Station;
+use station::station::Station;
 use text::put;
 use text::put_byte;
 use text::put_decimal;

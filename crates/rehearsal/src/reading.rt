@@ -1,7 +1,7 @@
 // How far a script was read.
 use crate::run::Progress;
 use crate::segment::Segment;
-use stations::station::Station;
+use station::station::Station;
 ghost use mathlib.Core.Path.{_≡_};
 ghost use Rattle.rehearsal.specs.Turn.{readingOf, progressOf};
 

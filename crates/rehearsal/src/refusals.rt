@@ -3,7 +3,7 @@ use crate::kinds::Kind;
 use crate::kinds::record_refusal;
 use crate::reading::Reading;
 use crate::segment::sent_by;
-use stations::station::Station;
+use station::station::Station;
 ghost use mathlib.Core.Path.{_≡_};
 ghost use Prim.Native.Nat.{_≤_};
 ghost use lib.ListN.{length};

@@ -1,6 +1,6 @@
 // The segment that a script describes, and what a record comes to.
-use stations::making::new_station;
-use stations::station::Station;
+use station::making::new_station;
+use station::station::Station;
 ghost use mathlib.Core.Path.{_≡_};
 ghost use lib.ListN.{getD};
 ghost use Rattle.stations.specs.List.{nowhere};

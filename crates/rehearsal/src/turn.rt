@@ -6,7 +6,7 @@ use crate::lines::put_refused;
 use crate::reading::Reading;
 use crate::records::reading_after;
 use crate::refusals::refusal_of;
-use stations::station::Station;
+use station::station::Station;
 ghost use mathlib.Core.Path.{_≡_};
 ghost use mathlib.Core.List.{[]};
 ghost use Prim.Native.Nat.{_≤_};

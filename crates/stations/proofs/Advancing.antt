@@ -4,8 +4,8 @@ use native.Mathlib.Nat.{not-suc-le-zero, le-of-suc-le-suc, zero-min, min-zero, s
 use mathlib.Core.Path.{_≡_, refl, ap, _∙_}
 use mathlib.Core.List.{List, [], _∷_}
 use lib.ListN.{length, getD, set}
-use Rattle.stations.specs.declared.station.Station.{Station}
-use Rattle.stations.specs.Passing.{passed}
+use Rattle.station.specs.declared.station.Station.{Station}
+use Rattle.station.specs.Passing.{passed}
 use Rattle.stations.specs.List.{nowhere, allPassed}
 
 module _ (ticks : ℕ) where

@@ -6,8 +6,8 @@ use mathlib.Core.List.{List}
 use lib.Dec.{eqb, ltb}
 use lib.ListN.{length, length-set}
 use lib.Seq.{getD-set-other}
-use Rattle.stations.specs.declared.station.Station.{Station}
-use Rattle.stations.specs.Station.{Result}
+use Rattle.station.specs.declared.station.Station.{Station}
+use Rattle.station.specs.Station.{Result}
 use Rattle.stations.specs.List.{nowhere, placed, refusesList, steppedAt, deliveryRefusal, deliveredAt}
 use Rattle.stations.specs.ListTheorems.{OneCall, OnlyAt, StepOnlyAt, DeliveryOnlyAt}
 

@@ -20,15 +20,15 @@ use denote.Steps.{only}
 use denote.Struct.Laws as LL
 use denote.Enum.Laws as EL
 use Rattle.table.specs.declared.answer.Answered.{Answered}
-use Rattle.stations.specs.declared.station.Station.{Station}
+use Rattle.station.specs.declared.station.Station.{Station}
+use Rattle.station.specs.Passing.{roomBytes, freshRoom}
+use Rattle.station.proofs.station.Station as S
+use Rattle.station.proofs.station.Station.Laws as S′
 use Rattle.stations.specs.declared.lent.Step.{Step}
 use Rattle.stations.specs.declared.lent.Moved.{Moved}
 use Rattle.stations.specs.List.{ListResult, LeavesList}
-use Rattle.stations.specs.Passing.{roomBytes, freshRoom}
 use Rattle.stations.specs.Lent.{movedBy}
 use Rattle.stations.proofs.Rows.{R, Answers, told, answer-tells}
-use Rattle.stations.proofs.station.Station as S
-use Rattle.stations.proofs.station.Station.Laws as S′
 use Rattle.stations.proofs.lent.Step as G
 use Rattle.stations.proofs.lent.Step.Laws as G′
 use Rattle.stations.proofs.lent.Moved as O

@@ -16,7 +16,7 @@ use denote.Triple.Spec.{tripleOf}
 use denote.Triple.Statement.{Contract}
 use denote.Triple.Clauses.{Clauses, Ended, closing}
 use denote.Exit.{yes}
-use Rattle.stations.specs.declared.station.Station.{Station}
+use Rattle.station.specs.declared.station.Station.{Station}
 use Rattle.stations.specs.List.{ListResult, LeavesList}
 use Rattle.stations.proofs.Rows.{R, Answers}
 use Rattle.stations.proofs.list.startup as startup

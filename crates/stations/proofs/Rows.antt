@@ -18,12 +18,12 @@ use Rattle.table.specs.declared.answer.Answered.{Answered}
 use Rattle.table.specs.declared.answer.Answered.the-variants.{Refused}
 use Rattle.table.proofs.answer.Answered as N
 use Rattle.table.proofs.answer.Answered.Laws as N′
-use Rattle.stations.specs.declared.station.Station.{Station}
-use Rattle.stations.specs.declared.station.Stepped.{Stepped}
-use Rattle.stations.proofs.station.Station as T
-use Rattle.stations.proofs.station.Station.Laws as T′
-use Rattle.stations.proofs.station.Stepped as S
-use Rattle.stations.proofs.station.Stepped.Laws as S′
+use Rattle.station.specs.declared.station.Station.{Station}
+use Rattle.station.specs.declared.station.Stepped.{Stepped}
+use Rattle.station.proofs.station.Station as T
+use Rattle.station.proofs.station.Station.Laws as T′
+use Rattle.station.proofs.station.Stepped as S
+use Rattle.station.proofs.station.Stepped.Laws as S′
 
 abbrev pub R : RattleType
 R = T.the-row

@@ -49,19 +49,19 @@ use denote.Exit.{yes}
 use Rattle.table.specs.declared.answer.Answered.{Answered}
 use Rattle.table.specs.declared.answer.Answered.the-variants.{Refused}
 use Rattle.table.proofs.answer.Answered.Laws as N′
-use Rattle.stations.specs.declared.station.Station.{Station}
-use Rattle.stations.specs.declared.station.Stepped.{Stepped}
-use Rattle.stations.specs.Station.{Result, Leaves}
+use Rattle.station.specs.declared.station.Station.{Station}
+use Rattle.station.specs.declared.station.Stepped.{Stepped}
+use Rattle.station.specs.Station.{Result, Leaves}
+use Rattle.station.proofs.station.Station as T
+use Rattle.station.proofs.station.Station.Laws as T′
+use Rattle.station.proofs.station.Stepped.Laws as S′
+use Rattle.station.proofs.steps.startup as startup
 use Rattle.stations.specs.List.{LeavesList, nowhere, steppedAt}
 use Rattle.stations.proofs.Locals.{envOf, slots}
 use Rattle.stations.proofs.Placed.{within, outside}
 use Rattle.stations.proofs.Rows.{R, Answers, Steps, mach, told, fits-at, refused, is-station, is-answer}
 use Rattle.stations.proofs.Rows.{station-tells, step-tells, station-makes, answer-makes, station-typed}
 use Rattle.stations.proofs.Rows.{answer-typed, step-typed}
-use Rattle.stations.proofs.station.Station as T
-use Rattle.stations.proofs.station.Station.Laws as T′
-use Rattle.stations.proofs.station.Stepped.Laws as S′
-use Rattle.stations.proofs.steps.startup as startup
 use Rattle.stations.proofs.list.startup as started
 
 -- the function

@@ -1,7 +1,7 @@
 -- One step on a copy of the stations (01, 'The rehearsal program').
 use Prim.Native.Nat.{ℕ}
 use mathlib.Core.List.{List}
-use Rattle.stations.specs.declared.station.Station.{Station}
+use Rattle.station.specs.declared.station.Station.{Station}
 use Rattle.stations.specs.declared.lent.Step.{Step}
 use Rattle.stations.specs.declared.lent.Step.the-variants.{Startup, Shutdown, Clock, Deliver}
 use Rattle.stations.specs.declared.lent.Moved.{Moved}

@@ -1,12 +1,3 @@
-pub mod Station
-pub mod Making
-pub mod Acting
-pub mod Hearing
-pub mod Steps
-pub mod Tables
-pub mod Latest
-pub mod Theorems
 pub mod List
 pub mod ListTheorems
-pub mod Passing
 pub mod Lent

@@ -10,10 +10,10 @@ use Rattle.wire.specs.Check.{Check, firstRefusal}
 use Rattle.table.specs.Configuring.{freed}
 use Rattle.table.specs.declared.answer.Answered.{Answered}
 use Rattle.table.specs.declared.answer.Answered.the-variants.{Refused}
-use Rattle.stations.specs.declared.station.Station.{Station}
-use Rattle.stations.specs.Station.{Result, stationOf}
-use Rattle.stations.specs.Steps.{happenedTo, clockedBy, deliveredTo}
-use Rattle.stations.specs.Passing.{passed}
+use Rattle.station.specs.declared.station.Station.{Station}
+use Rattle.station.specs.Station.{Result, stationOf}
+use Rattle.station.specs.Steps.{happenedTo, clockedBy, deliveredTo}
+use Rattle.station.specs.Passing.{passed}
 
 pub record ListResult : Type 0 where
   pub answer : Answered

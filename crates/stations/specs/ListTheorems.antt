@@ -4,8 +4,8 @@ use mathlib.Core.Path.{_≡_}
 use mathlib.Core.List.{List}
 use lib.ListN.{length, getD}
 use Rattle.table.specs.declared.answer.Answered.{Answered}
-use Rattle.stations.specs.declared.station.Station.{Station}
-use Rattle.stations.specs.Station.{Result}
+use Rattle.station.specs.declared.station.Station.{Station}
+use Rattle.station.specs.Station.{Result}
 use Rattle.stations.specs.List.{ListResult, LeavesList, nowhere, steppedAt, deliveredAt}
 
 -- two outcomes that the promise of a call allows are equal

@@ -1,10 +1,10 @@
 // Plain parameters above the lent list: a copy of the stations is lent, beside a room for what the step writes.
 use crate::list;
-use crate::station::Station;
+use station::station::Station;
 use table::answer::Answered;
 ghost use mathlib.Core.Path.{_≡_};
+ghost use Rattle.station.specs.Passing.{freshRoom};
 ghost use Rattle.stations.specs.Lent.{movedBy, steppedBy};
-ghost use Rattle.stations.specs.Passing.{freshRoom};
 ghost use Rattle.stations.specs.List.{startedAt, shutAt, clockedAt, allPassed, deliveredAt};
 
 // A step, and the numbers of the stations that it is for.

@@ -1,7 +1,7 @@
 // The stations of a segment in a lent list: each call fetches a station, takes its step by value and stores it.
-use crate::passing;
-use crate::station::Station;
-use crate::steps;
+use station::passing;
+use station::station::Station;
+use station::steps;
 use table::answer::Answered;
 ghost use mathlib.Core.Path.{_≡_};
 ghost use Prim.Native.Nat.{min};

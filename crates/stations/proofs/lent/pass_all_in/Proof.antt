@@ -88,14 +88,14 @@ use denote.Triple.Clauses.{ensured, lasts}
 use denote.Triple.Table.{entered, cited}
 use denote.Triple.Walked.{says, Stays, stay-dropped, walkOf, goes-dropped, Walks, ends-at, walked, walk-meets}
 use denote.Exit.{yes}
-use Rattle.stations.specs.declared.station.Station.{Station}
+use Rattle.station.specs.declared.station.Station.{Station}
+use Rattle.station.proofs.station.Station as S
+use Rattle.station.proofs.station.Station.Laws as S′
 use Rattle.stations.specs.List.{allPassed}
 use Rattle.stations.proofs.Lending.{lentAs, Again, lends, back}
 use Rattle.stations.proofs.Locals.{frees-laid}
 use Rattle.stations.proofs.Moving.{All, alls, all-typed}
 use Rattle.stations.proofs.Rows.{R, station-tells, station-makes}
-use Rattle.stations.proofs.station.Station as S
-use Rattle.stations.proofs.station.Station.Laws as S′
 use Rattle.stations.proofs.list.pass_first as pass-first
 use Rattle.stations.proofs.list.pass_first.Symbol.{name as #pass-first, routine}
 use Rattle.stations.proofs.list.pass_first.Met as pass-first-thm

@@ -134,12 +134,14 @@ use denote.Exit.{yes}
 use Rattle.table.specs.declared.answer.Answered.{Answered}
 use Rattle.table.proofs.answer.Answered as N
 use Rattle.table.proofs.answer.Answered.Laws as N′
-use Rattle.stations.specs.declared.station.Station.{Station}
+use Rattle.station.specs.declared.station.Station.{Station}
+use Rattle.station.specs.Passing.{roomBytes, freshRoom}
+use Rattle.station.proofs.station.Station as S
+use Rattle.station.proofs.station.Station.Laws as S′
 use Rattle.stations.specs.declared.lent.Step.{Step}
 use Rattle.stations.specs.declared.lent.Step.the-variants.{Startup, Shutdown, Clock, Deliver}
 use Rattle.stations.specs.declared.lent.Moved.{Moved}
 use Rattle.stations.specs.List.{ListResult, LeavesList, startedAt, shutAt, clockedAt, deliveredAt}
-use Rattle.stations.specs.Passing.{roomBytes, freshRoom}
 use Rattle.stations.specs.Lent.{steppedBy, movedBy}
 use Rattle.stations.proofs.Lending.{lentAs, Again, lends, back}
 use Rattle.stations.proofs.Locals.{envOf, laid, frees-laid}
@@ -161,8 +163,6 @@ use Rattle.stations.proofs.Moving.{
 }
 use Rattle.stations.proofs.OnList.{with-two, One, Two, one, two, ByOne, ByTwo}
 use Rattle.stations.proofs.Rows.{R, Answers, told, station-tells, answer-tells, station-makes, answer-typed}
-use Rattle.stations.proofs.station.Station as S
-use Rattle.stations.proofs.station.Station.Laws as S′
 use Rattle.stations.proofs.lent.Step as G
 use Rattle.stations.proofs.lent.Step.Laws as G′
 use Rattle.stations.proofs.lent.Moved as O

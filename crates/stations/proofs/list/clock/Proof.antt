@@ -47,22 +47,22 @@ use denote.Triple.Walked.{goes-gave-slice, Walks, ends-at, walked, walk-meets}
 use denote.Exit.{yes}
 use Rattle.table.specs.declared.answer.Answered.{Answered}
 use Rattle.table.specs.declared.answer.Answered.the-variants.{Refused}
-use Rattle.stations.specs.declared.station.Station.{Station}
-use Rattle.stations.specs.declared.station.Stepped.{Stepped}
-use Rattle.stations.specs.Station.{Leaves}
-use Rattle.stations.specs.Steps.{clockedBy}
+use Rattle.station.specs.declared.station.Station.{Station}
+use Rattle.station.specs.declared.station.Stepped.{Stepped}
+use Rattle.station.specs.Station.{Leaves}
+use Rattle.station.specs.Steps.{clockedBy}
+use Rattle.station.proofs.station.Station as T
+use Rattle.station.proofs.station.Station.Laws as T′
+use Rattle.station.proofs.station.Stepped.Laws as S′
+use Rattle.station.proofs.steps.clock as clock
+use Rattle.station.proofs.steps.clock.Symbol.{name as #clock, routine}
+use Rattle.station.proofs.steps.clock.Met as clock-thm
 use Rattle.stations.specs.List.{LeavesList, nowhere, clockedAt}
 use Rattle.stations.proofs.Locals.{envOf, slots}
 use Rattle.stations.proofs.Placed.{within, outside}
 use Rattle.stations.proofs.Rows.{R, Answers, Steps, mach, told, fits-at, refused, is-station, is-answer}
 use Rattle.stations.proofs.Rows.{station-tells, step-tells, station-makes, answer-makes, station-typed}
 use Rattle.stations.proofs.Rows.{answer-typed, step-typed}
-use Rattle.stations.proofs.station.Station as T
-use Rattle.stations.proofs.station.Station.Laws as T′
-use Rattle.stations.proofs.station.Stepped.Laws as S′
-use Rattle.stations.proofs.steps.clock as clock
-use Rattle.stations.proofs.steps.clock.Symbol.{name as #clock, routine}
-use Rattle.stations.proofs.steps.clock.Met as clock-thm
 use Rattle.stations.proofs.list.clock.Key.{name as #clock-at}
 use Rattle.stations.proofs.list.clock as clock-at
 use Rattle.stations.proofs.list.clock.Statement as stated
@@ -345,5 +345,5 @@ clock-spec 𝓤 H 𝓜 𝓖 𝓡 =
     entered 𝓤 H (tripleOf 𝓤 H (𝓖 .A) clock-at.signature (clock-at.spec 𝓤 H (𝓖 .A) (𝓜 .mem) (𝓡 .run)))
     (tables 𝓤 H 𝓜 𝓡 code.env .C) (tables 𝓤 H 𝓜 𝓡 code.env .Λ) #clock-at code.function (code.unfolded 𝓤 H 𝓜 𝓡)
     (meets 𝓤 H (𝓖 .A) (givenOf 𝓤 H 𝓜 𝓖) (𝓜 .mem) (𝓡 .run) (tablesOf 𝓤 H 𝓜 (tables 𝓤 H 𝓜 𝓡 code.env))
-    (cited 𝓤 H (Clocked 𝓤 H (𝓖 .A) (𝓜 .mem) (𝓡 .run)) 𝓜 𝓡 code.env #clock routine code.calls-stations·steps·clock
+    (cited 𝓤 H (Clocked 𝓤 H (𝓖 .A) (𝓜 .mem) (𝓡 .run)) 𝓜 𝓡 code.env #clock routine code.calls-station·steps·clock
     (clock-thm.met 𝓤 H 𝓜 𝓖 𝓡)))

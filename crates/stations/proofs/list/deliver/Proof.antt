@@ -50,27 +50,27 @@ use denote.Triple.Walked.{goes-gave-slice, Walks, ends-at, walked, walk-meets}
 use denote.Exit.{yes}
 use Rattle.table.specs.declared.answer.Answered.{Answered}
 use Rattle.table.specs.declared.answer.Answered.the-variants.{Refused}
-use Rattle.stations.specs.declared.station.Station.{Station}
-use Rattle.stations.specs.declared.station.Stepped.{Stepped}
-use Rattle.stations.specs.Station.{Leaves}
-use Rattle.stations.specs.Steps.{deliveredTo}
+use Rattle.station.specs.declared.station.Station.{Station}
+use Rattle.station.specs.declared.station.Stepped.{Stepped}
+use Rattle.station.specs.Station.{Leaves}
+use Rattle.station.specs.Steps.{deliveredTo}
+use Rattle.station.proofs.station.Station as T
+use Rattle.station.proofs.station.Station.Laws as T′
+use Rattle.station.proofs.station.Stepped.Laws as S′
+use Rattle.station.proofs.steps.deliver as deliver
+use Rattle.station.proofs.steps.deliver.Symbol as deliver-def
+use Rattle.station.proofs.steps.deliver.Symbol.{name as #deliver}
+use Rattle.station.proofs.steps.deliver.Met as deliver-thm
 use Rattle.stations.specs.List.{LeavesList, nowhere, deliveryRefusal, deliveredAt}
 use Rattle.stations.proofs.Locals.{envOf, slots}
 use Rattle.stations.proofs.Placed.{delivered-within, delivered-refused, from-there, to-there, nought}
 use Rattle.stations.proofs.Rows.{R, Answers, Steps, mach, told, fits-at, refused, is-station, is-answer}
 use Rattle.stations.proofs.Rows.{station-tells, step-tells, station-makes, answer-makes, station-typed}
 use Rattle.stations.proofs.Rows.{answer-typed, step-typed}
-use Rattle.stations.proofs.station.Station as T
-use Rattle.stations.proofs.station.Station.Laws as T′
-use Rattle.stations.proofs.station.Stepped.Laws as S′
 use Rattle.stations.proofs.list.delivery_refusal as refusal
 use Rattle.stations.proofs.list.delivery_refusal.Symbol as refusal-def
 use Rattle.stations.proofs.list.delivery_refusal.Symbol.{name as #refusal}
 use Rattle.stations.proofs.list.delivery_refusal.Met as refusal-thm
-use Rattle.stations.proofs.steps.deliver as deliver
-use Rattle.stations.proofs.steps.deliver.Symbol as deliver-def
-use Rattle.stations.proofs.steps.deliver.Symbol.{name as #deliver}
-use Rattle.stations.proofs.steps.deliver.Met as deliver-thm
 use Rattle.stations.proofs.list.deliver.Key.{name as #deliver-at}
 use Rattle.stations.proofs.list.deliver as deliver-at
 use Rattle.stations.proofs.list.deliver.Statement as stated
@@ -427,4 +427,4 @@ deliver-spec 𝓤 H 𝓜 𝓖 𝓡 =
     (cited 𝓤 H (Refusal 𝓤 H (𝓖 .A) (𝓜 .mem) (𝓡 .run)) 𝓜 𝓡 code.env #refusal refusal-def.routine
     code.calls-stations·list·delivery-refusal (refusal-thm.met 𝓤 H 𝓜 𝓖 𝓡))
     (cited 𝓤 H (Delivered 𝓤 H (𝓖 .A) (𝓜 .mem) (𝓡 .run)) 𝓜 𝓡 code.env #deliver deliver-def.routine
-    code.calls-stations·steps·deliver (deliver-thm.met 𝓤 H 𝓜 𝓖 𝓡)))
+    code.calls-station·steps·deliver (deliver-thm.met 𝓤 H 𝓜 𝓖 𝓡)))

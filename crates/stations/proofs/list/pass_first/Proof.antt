@@ -142,18 +142,18 @@ use denote.Triple.Walked.{
 }
 use denote.Exit.{yes}
 use borrow.Author.Tests.{lt-ltb, le-ltb}
-use Rattle.stations.specs.declared.station.Station.{Station}
-use Rattle.stations.specs.Passing.{passed}
+use Rattle.station.specs.declared.station.Station.{Station}
+use Rattle.station.specs.Passing.{passed}
+use Rattle.station.proofs.station.Station as T
+use Rattle.station.proofs.station.Station.Laws as T′
+use Rattle.station.proofs.passing.pass as pass
+use Rattle.station.proofs.passing.pass.Symbol as pass-def
+use Rattle.station.proofs.passing.pass.Symbol.{name as #pass}
+use Rattle.station.proofs.passing.pass.Met as pass-thm
 use Rattle.stations.specs.List.{nowhere, allPassed}
 use Rattle.stations.proofs.Advancing.{none-yet, length-passed, next-passed, at-end}
 use Rattle.stations.proofs.Locals.{envOf, laid, frees-laid}
 use Rattle.stations.proofs.Rows.{R, mach, fits-at, station-tells, station-makes, station-typed}
-use Rattle.stations.proofs.station.Station as T
-use Rattle.stations.proofs.station.Station.Laws as T′
-use Rattle.stations.proofs.passing.pass as pass
-use Rattle.stations.proofs.passing.pass.Symbol as pass-def
-use Rattle.stations.proofs.passing.pass.Symbol.{name as #pass}
-use Rattle.stations.proofs.passing.pass.Met as pass-thm
 use Rattle.stations.proofs.list.least as least
 use Rattle.stations.proofs.list.least.Symbol as least-def
 use Rattle.stations.proofs.list.least.Symbol.{name as #least}
@@ -502,6 +502,6 @@ pass-first-spec 𝓤 H 𝓜 𝓖 𝓡 =
     (tables 𝓤 H 𝓜 𝓡 code.env .C) (tables 𝓤 H 𝓜 𝓡 code.env .Λ) #here code.function (code.unfolded 𝓤 H 𝓜 𝓡)
     (meets 𝓤 H (𝓖 .A) (givenOf 𝓤 H 𝓜 𝓖) (𝓜 .mem) (𝓡 .run) (tablesOf 𝓤 H 𝓜 (tables 𝓤 H 𝓜 𝓡 code.env))
     (cited 𝓤 H (Passed 𝓤 H (𝓖 .A) (𝓜 .mem) (𝓡 .run)) 𝓜 𝓡 code.env #pass pass-def.routine
-    code.calls-stations·passing·pass (pass-thm.met 𝓤 H 𝓜 𝓖 𝓡))
+    code.calls-station·passing·pass (pass-thm.met 𝓤 H 𝓜 𝓖 𝓡))
     (cited 𝓤 H (Least 𝓤 H (𝓖 .A) (𝓜 .mem) (𝓡 .run)) 𝓜 𝓡 code.env #least least-def.routine
     code.calls-stations·list·least (least-thm.met 𝓤 H 𝓜 𝓖 𝓡)))
