@@ -36,7 +36,8 @@ use Rattle.station.specs.declared.station.Station.{Station}
 use Rattle.station.specs.Station.{listOf, withRouter, withFrame}
 use Rattle.station.specs.Acting.{writtenBy, neededBy, keptBy, actedBy}
 use Rattle.station.specs.Steps.{clockedBy}
-use Rattle.station.specs.Passing.{roomBytes, freshRoom, passedIn, passed, dueIn, countsIn, firedOf, elapsedOf}
+use Rattle.station.specs.Passing.{roomBytes, freshRoom, passedIn, passed}
+use Rattle.station.specs.Elapsed.{dueIn, countsIn, firedOf, elapsedOf}
 use Rattle.station.proofs.Arrays.{list-length}
 
 pub rest-below : (n m : ℕ) → ¬ (m ≡ 0) → n % m ≤ m

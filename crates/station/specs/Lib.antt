@@ -7,3 +7,4 @@ pub mod Tables
 pub mod Latest
 pub mod Theorems
 pub mod Passing
+pub mod Elapsed

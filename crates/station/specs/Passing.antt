@@ -1,15 +1,9 @@
 -- Time for a station, firing as often as due (01, 'Time', 'The rehearsal program').
-use Prim.Native.Nat.{ℕ, zero, suc, _-_, _%_}
+use Prim.Native.Nat.{ℕ, zero, suc}
 use mathlib.Core.List.{List}
-use mathlib.Core.Bool.{Bool, cond, not, _&&_}
-use lib.Dec.{eqb, leb}
+use mathlib.Core.Bool.{cond}
+use lib.Dec.{eqb}
 use lib.ListN.{replicate}
-use Rattle.router.specs.declared.record.State.{State}
-use Rattle.router.specs.declared.record.State.the-variants.{Initialize, Backup, Master}
-use Rattle.router.specs.declared.record.Counts.{Counts}
-use Rattle.router.specs.declared.record.Router.{Router}
-use Rattle.router.specs.Timers.{advertisementIntervalOf}
-use Rattle.router.specs.Step.{stateNumber, withState, withCounts, becameMaster}
 use Rattle.table.specs.declared.answer.Answered.{Answered}
 use Rattle.table.specs.declared.answer.Answered.the-variants.{Done, Refused, Short}
 use Rattle.station.specs.declared.station.Station.{Station}
@@ -38,27 +32,3 @@ passedIn (suc times) s ticks =
 -- "each firing as often as due": a running timer fires at most once a tick, and the last time the leftover is 0
 unfoldable pub passed : Station → ℕ → Station
 passed s ticks = passedIn (suc (suc ticks)) s ticks
-
--- What follows is how the code computes it, all fires together.
-
--- whether the timer fires within so many ticks; in Initialize none runs
-unfoldable pub dueIn : Router → ℕ → Bool
-dueIn r ticks = not (eqb (stateNumber (r .state)) 0) && leb (r .timer) ticks
-
--- the counts after a fire: a Backup became Master
-abbrev pub countsIn : State → Counts → Counts
-countsIn Initialize counts = counts
-countsIn Backup counts = becameMaster counts
-countsIn Master counts = counts
-
--- a router after its fires, of which the first left so many ticks: a Master with what remains of its last interval
-unfoldable pub firedOf : Router → ℕ → Router
-firedOf r left =
-    withState (withCounts r (countsIn (r .state) (r .counts))) Master
-    (advertisementIntervalOf (r .interval) - left % advertisementIntervalOf (r .interval))
-
--- a router when so many ticks have passed: its timer has fallen, or fired as often as due
-unfoldable pub elapsedOf : Router → ℕ → Router
-elapsedOf r ticks =
-    cond (eqb (stateNumber (r .state)) 0) r
-    (cond (leb (r .timer) ticks) (firedOf r (ticks - r .timer)) (withState r (r .state) (r .timer - ticks)))

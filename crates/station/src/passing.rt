@@ -9,7 +9,8 @@ use router::timers::advertisement_interval;
 use wire::frame::put_advertisement;
 ghost use mathlib.Core.Path.{_≡_};
 ghost use Prim.Native.Nat.{_-_, _%_};
-ghost use Rattle.station.specs.Passing.{dueIn, countsIn, firedOf, elapsedOf, passed};
+ghost use Rattle.station.specs.Passing.{passed};
+ghost use Rattle.station.specs.Elapsed.{dueIn, countsIn, firedOf, elapsedOf};
 
 // Whether the timer fires within so many ticks.
 fn due(own: Router, ticks: u32) -> bool

@@ -2,7 +2,7 @@
 -- Assumes nothing.
 use borrow.Author.Needs.{needs}
 use borrow.Author.Tests.{eq-eqb, ne-eqb}
-use Rattle.station.specs.Passing.{dueIn}
+use Rattle.station.specs.Elapsed.{dueIn}
 use Rattle.station.proofs.passing.due.Statement.{statement}
 use Rattle.station.proofs.passing.due.Tie as tie
 

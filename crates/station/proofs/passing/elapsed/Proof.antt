@@ -3,7 +3,7 @@
 use mathlib.Core.Path.{_∙_}
 use borrow.Author.Needs.{needs}
 use borrow.Author.Tests.{eq-eqb, ne-eqb, le-leb, lt-leb}
-use Rattle.station.specs.Passing.{elapsedOf}
+use Rattle.station.specs.Elapsed.{elapsedOf}
 use Rattle.station.proofs.passing.elapsed.Statement.{statement}
 use Rattle.station.proofs.passing.elapsed.Tie as tie
 

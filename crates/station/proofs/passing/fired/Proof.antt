@@ -1,7 +1,7 @@
 -- `passing::fired` meets its contract.
 -- Assumes nothing.
 use borrow.Author.Needs.{needs}
-use Rattle.station.specs.Passing.{firedOf}
+use Rattle.station.specs.Elapsed.{firedOf}
 use Rattle.station.proofs.passing.fired.Statement.{statement}
 use Rattle.station.proofs.passing.fired.Tie as tie
 
