@@ -1,5 +1,6 @@
 mod Locals
 mod Placed
+mod Fetching
 mod Rows
 mod Stepping
 pub mod ListTheorems
