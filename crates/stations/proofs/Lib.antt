@@ -1,6 +1,7 @@
 mod Locals
 mod Placed
 mod Fetching
+mod Asking
 mod Rows
 mod Stepping
 pub mod ListTheorems

@@ -13,8 +13,8 @@ use Rattle.station.specs.declared.station.Station.{Station}
 use Rattle.station.specs.declared.station.Stepped.{Stepped}
 use Rattle.station.specs.Station.{Result, Leaves}
 use Rattle.station.specs.Steps.{deliveredTo}
-use Rattle.stations.specs.List.{LeavesList, nowhere, placed, refusesList, steppedAt}
-use Rattle.stations.specs.List.{deliveryChecks, deliveryRefusal, deliveredAt}
+use Rattle.stations.specs.List.{LeavesList, nowhere, placed, refusesList, steppedAt, deliveryChecks}
+use Rattle.stations.specs.List.{deliveryRefusal, deliveredAt}
 
 -- what a step by value leaves, stored at its number
 stored : (result : Result) (stations : List Station) (at : ℕ) (r : Stepped) (room : List ℕ) → Leaves result r room

@@ -15,58 +15,11 @@ use prog.Wp.{Heap, Calls, Loops, WpFn, Tables}
 use ghost.Atoms.{Atoms}
 use contract.Monad.{Fun, fact}
 use contract.Running.{givenOf, tables, tablesOf}
-use types.Kit.{
-  Given,
-  ‵,
-  raw,
-  some,
-  later,
-  _⊛_,
-  ⋆,
-  _$_,
-  _∵_,
-  !,
-  qed,
-  by,
-  move,
-  drop,
-  group,
-  use1,
-  use3,
-  split,
-  join,
-  pick,
-  learn,
-  fsplit,
-  fjoin,
-  feqL,
-  suffices,
-  frame,
-  await,
-  done,
-}
+use types.Kit.{Given, ‵, raw, some, later, _⊛_, ⋆, _$_, _∵_, !, qed, by, move, drop, group, use1, use3, split, join}
+use types.Kit.{pick, learn, fsplit, fjoin, feqL, suffices, frame, await, done}
 use types.Part.{agg}
-use types.Run.{
-  look,
-  init,
-  stop,
-  from,
-  load,
-  addr,
-  lit,
-  of-opd,
-  and-then,
-  no-more,
-  assigns,
-  land,
-  returns,
-  enter,
-  alloc1,
-  alloc0,
-  params1,
-  pass1,
-  pass0,
-}
+use types.Run.{look, init, stop, from, load, addr, lit, of-opd, and-then, no-more, assigns, land, returns, enter}
+use types.Run.{alloc1, alloc0, params1, pass1, pass0}
 use types.Tokens.{lft-new, lft-end}
 use sound.WpLaws.{FmC, fmOf, WpFn-mono}
 use denote.RattleType.{owns}
