@@ -37,6 +37,9 @@ Steps = S.the-row
 abbrev pub mach : Station → Val
 mach d = LL.val T.the-type T′.the-laws d
 
+abbrev pub steppedVal : Stepped → Val
+steppedVal r = LL.val S.the-type S′.the-laws r
+
 abbrev pub told : Answered → Val
 told a = EL.val N.the-type N′.the-laws a
 

@@ -1,7 +1,7 @@
 -- A step on one station of the list, as the functions on the list take it: the station is fetched, the step is taken by
 -- value with the room handed on, and its station is stored in its place. The step that is called, what it is given
 -- beside the station and the room, and the numbers of the code's locals are parameters.
-use mathlib.Core.Path.{_≡_, refl, ap}
+use mathlib.Core.Path.{_≡_, refl, ap, subst}
 use Prim.Native.Nat.{ℕ, _<_, _+_}
 use mathlib.Core.List.{List, [], _∷_}
 use lib.Dec.{leb→le, nleb→lt, lit<}
@@ -51,7 +51,7 @@ use Rattle.stations.proofs.Lending.{lastly}
 use Rattle.stations.proofs.Locals.{allocs-all, vacant, apart, paired, frees-laid}
 use Rattle.stations.proofs.OnList.{Handed, listVal, roomVal, roomRef, Roomed, Entry, Left, one, meets-one}
 use Rattle.stations.proofs.Placed.{within, outside}
-use Rattle.stations.proofs.Rows.{R, Answers, Steps, mach, told, refused, is-station, is-answer, step-tells}
+use Rattle.stations.proofs.Rows.{R, Answers, Steps, mach, told, refused, is-station, is-answer, step-tells, steppedVal}
 use Rattle.stations.proofs.Rows.{station-makes, station-typed, answer-typed, step-typed}
 use Rattle.stations.proofs.list.startup as started
 
@@ -159,15 +159,18 @@ module _ {M : Type 1} (𝓤 : URA M) (H : Heap 𝓤) (A : Atoms 𝓤) (W : Given
               next r (ls .1 .1 .0) is len s)))));
         }
 
--- the code: fetch to local d, call, store, answer. The step's result stands behind d, the room's copy from a on
-abbrev pub taking : Name → List Opd → ℕ → ℕ → ℕ → ℕ → ℕ → ℕ → Body
-taking callee xs i o d p c a =
+-- the code: fetch to local d and call, with the room's copy from a on and the result behind d
+abbrev taking : Name → List Opd → ℕ → ℕ → ℕ → ℕ → ℕ → ℕ → Body → Body
+taking callee xs i o d p c a rest =
     fetching i (3 + d) p c d
     (sets a (addrOf (place o (field 0 ∷ deref (tyInt w8) ∷ [])))
-    (sets (1 + a) (aggregate (of a ∷ part o 1 ∷ []))
-    (seq (call callee xs (place (1 + d) []))
-    (sets (2 + d) (rvOpd (part (1 + d) 0))
-    (storing (2 + d) i (3 + d) (2 + a) (sets 0 (rvOpd (part (1 + d) 1)) return))))))
+    (sets (1 + a) (aggregate (of a ∷ part o 1 ∷ [])) (seq (call callee xs (place (1 + d) [])) rest)))
+
+-- store the result's station, and answer
+abbrev leaving : ℕ → ℕ → ℕ → Body
+leaving i d a =
+    sets (2 + d) (rvOpd (part (1 + d) 0))
+    (storing (2 + d) i (3 + d) (2 + a) (sets 0 (rvOpd (part (1 + d) 1)) return))
 
 -- the code that goes on only where the number in local i is below the list's length
 abbrev pub checking : Body → ℕ → ℕ → Body
@@ -195,20 +198,29 @@ chosen (k ∷ ks) τs = getD τs k tyUnit ∷ chosen ks τs
 choose : (ks : List ℕ) {xs ys : List Ty} → xs ≡ ys → chosen ks xs ≡ chosen ks ys
 choose ks e = ap (chosen ks) e
 
--- the locals that the code uses: on the way to it and behind it, and at the call
+-- the locals that the code uses: before it, after the call, at the end, and at the call
 module _ {M : Type 1} (𝓤 : URA M) (H : Heap 𝓤) (E : Env 𝓤 H) (h : Handed) (i o d p c a : ℕ) where
   abbrev Rest : List (Item 𝓤) → List (Item 𝓤)
   Rest Γ =
       empty 𝓤 H E p tyPtr ∷ empty 𝓤 H E c T′.mir ∷ empty 𝓤 H E a (room-at erased)
       ∷ empty 𝓤 H E (1 + a) (sliceTy (room-at erased)) ∷ empty 𝓤 H E (2 + a) tyPtr ∷ Γ
 
+  abbrev Cells : Item 𝓤 → Item 𝓤 → ℕ → List (Item 𝓤) → List (Item 𝓤)
+  Cells x y n Γ =
+      empty 𝓤 H E 0 N′.mir ∷ holds 𝓤 H E 1 listTy (listVal h) ∷ holds 𝓤 H E i (tyInt w64) (vint w64 n) ∷ x
+      ∷ empty 𝓤 H E d T′.mir ∷ y ∷ empty 𝓤 H E (2 + d) T′.mir ∷ empty 𝓤 H E (3 + d) (tyInt w64) ∷ Γ
+
   abbrev Begun : ℕ → List (Item 𝓤) → List (Item 𝓤)
   Begun n Γ =
       Lent 𝓤 (h .κ₀) (h .q₀) (h .γ) (h .b) (h .o) (h .ys)
-      (‵ (flft (h .κ₁) (h .q₁)) ∷ ‵ (Roomed h) ∷ empty 𝓤 H E 0 N′.mir ∷ holds 𝓤 H E 1 listTy (listVal h)
-      ∷ holds 𝓤 H E i (tyInt w64) (vint w64 n) ∷ holds 𝓤 H E o (sliceTy (room-at (named 1))) (roomVal h)
-      ∷ empty 𝓤 H E d T′.mir ∷ empty 𝓤 H E (1 + d) S′.mir ∷ empty 𝓤 H E (2 + d) T′.mir
-      ∷ empty 𝓤 H E (3 + d) (tyInt w64) ∷ Γ)
+      (‵ (flft (h .κ₁) (h .q₁)) ∷ ‵ (Roomed h)
+      ∷ Cells (holds 𝓤 H E o (sliceTy (room-at (named 1))) (roomVal h)) (empty 𝓤 H E (1 + d) S′.mir) n Γ)
+
+  abbrev Taken : ℕ → Stepped → List ℕ → List (Item 𝓤) → List (Item 𝓤)
+  Taken n r l Γ =
+      Lent 𝓤 (h .κ₀) (h .q₀) (h .γ) (h .b) (h .o) (h .ys)
+      ((‵ (flft (h .κ₁) (h .q₁)) ⊛ ‵ ftrue) ∷ ‵ (finally u8 (h .γ₁) l)
+      ∷ Cells (empty 𝓤 H E o (sliceTy (room-at (named 1)))) (holds 𝓤 H E (1 + d) S′.mir (steppedVal r)) n Γ)
 
   abbrev Over : List Station → List ℕ → Answered → List (Item 𝓤) → List (Item 𝓤)
   Over zs l s Γ =
@@ -237,16 +249,16 @@ module _ {M : Type 1} {𝓤 : URA M} {H : Heap 𝓤} {A : Atoms 𝓤} {W : Given
 
   module _ {C : Calls 𝓤 H} {Λ : Loops 𝓤 H} {E : Env 𝓤 H} (fm : FmC 𝓤 H (W .laws) C)
       (i o d p c a : ℕ) (τs : kinds 𝓤 H E (used i o d p c a) ≡ usedTys) (n : ℕ) where
-    pub takes : {Γ : List (Item 𝓤)} {callee : Name} {xs : List Opd} {q : Post 𝓤 H} {result : Result} → n < length (h .ys)
-        → (known : Called 𝓤 H A W h C callee (getD (h .ys) n nowhere) result)
+    -- the station is fetched, and the step is taken
+    pub takes : {Γ : List (Item 𝓤)} {callee : Name} {xs : List Opd} {rest : Body} {q : Post 𝓤 H} {result : Result}
+        → n < length (h .ys) → (known : Called 𝓤 H A W h C callee (getD (h .ys) n nowhere) result)
         → Opds Go W
         (raw (known .contract .pre (known .at)) ∷ AtCall 𝓤 H E h i o d p c a n (mach (getD (h .ys) n nowhere)) Γ) E xs
         (known .contract .args (known .at))
-        → ((r : Stepped) (l : List ℕ) → Is Answers (r .answer) (told (r .answer) ∷ []) → length l ≡ length (h .us)
-        → Leaves result r l
-        → Sq W (Over 𝓤 H E h i o d p c a (set (h .ys) n (r .station)) l (r .answer) (Rest 𝓤 H E h i o d p c a Γ))
-        (runs C Λ E return q))
-        → Sq W (Begun 𝓤 H E h i o d p c a n (Rest 𝓤 H E h i o d p c a Γ)) (runs C Λ E (taking callee xs i o d p c a) q)
+        → ((r : Stepped) (l : List ℕ) → Is Steps r (steppedVal r ∷ []) → length l ≡ length (h .us) → Leaves result r l
+        → Sq W (Taken 𝓤 H E h i o d p c a n r l (Rest 𝓤 H E h i o d p c a Γ)) (runs C Λ E rest q))
+        → Sq W (Begun 𝓤 H E h i o d p c a n (Rest 𝓤 H E h i o d p c a Γ))
+        (runs C Λ E (taking callee xs i o d p c a rest) q)
     takes l known args next =
         move ! (0 ∷ 1 ∷ 2 ∷ 6 ∷ 7 ∷ 12 ∷ 13 ∷ 14 ∷ 9 ∷ []) $
         fetches ! i (3 + d) p c d (choose (1 ∷ 2 ∷ 7 ∷ 8 ∷ 9 ∷ 4 ∷ []) τs) (h .b) (h .o) (h .ys) n l (h .long .1) (λ is-d.
@@ -261,18 +273,29 @@ module _ {M : Type 1} {𝓤 : URA M} {H : Heap 𝓤} {A : Atoms 𝓤} {W : Given
         -- [κ₁; the room's last list; obs; the borrow; κ₀; _1; i; t; p; c; d; _0; o; the result; after; a; …]
         land ! (found ! (kind 5 τs) (stop !)) (init ! 13 refl (step-typed 𝓤 H A W r v is)) $
         rewrite ! 13 (λ (u : Val). holds 𝓤 H E (1 + d) S′.mir u) (ap only (step-tells r _ is)) refl $
-        assigns ! (of-opd ! (load ! (found ! (kind 5 τs) (fld ! refl (stop !))) (look-in ! 13 (sub ! 0 refl (whole !)))))
-        (found ! (kind 6 τs) (stop !)) (init ! 14 refl (station-typed 𝓤 H A W (r .station) (is-station r v is))) $
-        move ! (2 ∷ 3 ∷ 4 ∷ 5 ∷ 6 ∷ 7 ∷ 17 ∷ 14 ∷ []) $
+        forget ! 10 refl $ forget ! 12 refl $ forget ! 15 refl $ forget ! 16 refl $
+        move ! (2 ∷ 3 ∷ 4 ∷ 0 ∷ 1 ∷ 11 ∷ 5 ∷ 6 ∷ 12 ∷ 10 ∷ 13 ∷ 14 ∷ 7 ∷ []) $
+        next r us (subst (Is Steps r) (step-tells r _ is) is) len e)))
+
+    -- what it left is stored, and answered
+    pub leaves : {Γ : List (Item 𝓤)} {q : Post 𝓤 H} → n < length (h .ys) → (r : Stepped) (l : List ℕ)
+        → Is Steps r (steppedVal r ∷ [])
+        → Rule Go W
+        (Over 𝓤 H E h i o d p c a (set (h .ys) n (r .station)) l (r .answer) (Rest 𝓤 H E h i o d p c a Γ))
+        (runs C Λ E return q) (Taken 𝓤 H E h i o d p c a n r l (Rest 𝓤 H E h i o d p c a Γ))
+        (runs C Λ E (leaving i d a) q)
+    leaves l r us is = step (λ next.
+        -- [obs; the borrow; κ₀; κ₁; the room's last list; _0; _1; i; o; d; the result; after; t; p; c; a; …]
+        assigns ! (of-opd ! (load ! (found ! (kind 5 τs) (fld ! refl (stop !))) (look-in ! 10 (sub ! 0 refl (whole !)))))
+        (found ! (kind 6 τs) (stop !)) (init ! 11 refl (station-typed 𝓤 H A W (r .station) (is-station r _ is))) $
+        move ! (0 ∷ 1 ∷ 2 ∷ 6 ∷ 7 ∷ 12 ∷ 17 ∷ 11 ∷ []) $
         stores ! (2 + d) i (3 + d) (2 + a) (choose (1 ∷ 2 ∷ 7 ∷ 12 ∷ 6 ∷ []) τs) (h .b) (h .o) (h .ys) n l (h .long .1)
-        (r .station) (is-station r v is) $
-        -- [obs; the borrow; κ₀; _1; i; t; the pointer; after; κ₁; the room's last list; p; c; d; _0; o; the result; a; …]
-        assigns ! (of-opd ! (load ! (found ! (kind 5 τs) (fld ! refl (stop !))) (look-in ! 15 (sub ! 1 refl (whole !)))))
-        (found ! (kind 0 τs) (stop !)) (init ! 13 refl (answer-typed 𝓤 H A W (r .answer) (is-answer r v is))) $
-        forget ! 3 refl $ forget ! 4 refl $ forget ! 7 refl $ forget ! 12 refl $ forget ! 14 refl $ forget ! 15 refl $
-        forget ! 16 refl $ forget ! 17 refl $ lastly ! R (named 0) (h .κ₀) (h .γ) (set (h .ys) n (r .station)) $
-        move ! (0 ∷ 1 ∷ 7 ∷ 8 ∷ 12 ∷ 2 ∷ 3 ∷ 13 ∷ 11 ∷ 14 ∷ 6 ∷ 4 ∷ 9 ∷ 10 ∷ 15 ∷ 16 ∷ 5 ∷ []) $
-        next r us (is-answer r v is) len e)))
+        (r .station) (is-station r _ is) $
+        assigns ! (of-opd ! (load ! (found ! (kind 5 τs) (fld ! refl (stop !))) (look-in ! 13 (sub ! 1 refl (whole !)))))
+        (found ! (kind 0 τs) (stop !)) (init ! 10 refl (answer-typed 𝓤 H A W (r .answer) (is-answer r _ is))) $
+        forget ! 3 refl $ forget ! 4 refl $ forget ! 7 refl $ forget ! 13 refl $
+        lastly ! R (named 0) (h .κ₀) (h .γ) (set (h .ys) n (r .station)) $
+        move ! (0 ∷ 1 ∷ 7 ∷ 8 ∷ 9 ∷ 2 ∷ 3 ∷ 10 ∷ 11 ∷ 12 ∷ 6 ∷ 4 ∷ 13 ∷ 14 ∷ 15 ∷ 16 ∷ 5 ∷ []) $ next)
 
     -- the same behind a check of the number: past the end of the list the answer is 26
     module _ (τ : spotOf 𝓤 H E (4 + d) .0 ≡ tyBool) where
@@ -288,7 +311,7 @@ module _ {M : Type 1} {𝓤 : URA M} {H : Heap 𝓤} {A : Atoms 𝓤} {W : Given
           (frees E (prop (Post (told s)))))
           → Sq W
           (Begun 𝓤 H E h i o d p c a n (empty 𝓤 H E (4 + d) tyBool ∷ Rest 𝓤 H E h i o d p c a Γ))
-          (runs C Λ E (checking (taking callee xs i o d p c a) i d) (atRet E Post))
+          (runs C Λ E (checking (taking callee xs i o d p c a (leaving i d a)) i d) (atRet E Post))
       steps {callee = callee} {xs} {Post} step known args next =
           assigns ! (of-opd ! (load ! (found ! (kind 1 τs) (fld ! refl (stop !))) (look-in ! 6 (sub ! 1 refl (whole !)))))
           (found ! (kind 7 τs) (stop !)) (init ! 12 refl (tt, record { fits = h .long .0 })) $
@@ -304,13 +327,13 @@ module _ {M : Type 1} {𝓤 : URA M} {H : Heap 𝓤} {A : Atoms 𝓤} {W : Given
           (outside step (h .ys) n (h .us) (leb→le (length (h .ys)) n past)))
           (λ there.
           let l : n < length (h .ys) = nleb→lt (length (h .ys)) n there in
-          skips ! $ exec ! C Λ E (taking callee xs i o d p c a) (atRet E Post) $
+          skips ! $ exec ! C Λ E (taking callee xs i o d p c a (leaving i d a)) (atRet E Post) $
           forget ! 12 refl $ forget ! 13 refl $
           move ! (0 ∷ 1 ∷ 2 ∷ 3 ∷ 4 ∷ 5 ∷ 6 ∷ 7 ∷ 8 ∷ 9 ∷ 10 ∷ 11 ∷ 12 ∷ 14 ∷ 15 ∷ 16 ∷ 17 ∷ 18 ∷ []) $
-          takes l known args (λ r us is len e.
+          takes l known args (λ r us is len e. leaves l r us is $
           returns ! (reads (kind 0 τs) (look ! 4 refl)) $
           move ! (0 ∷ 1 ∷ 2 ∷ 3 ∷ 4 ∷ 5 ∷ 6 ∷ 7 ∷ 8 ∷ 9 ∷ 10 ∷ 11 ∷ 17 ∷ []) $
-          next (r .answer) (set (h .ys) n (r .station)) us is (length-set (h .ys) n (r .station)) len
+          next (r .answer) (set (h .ys) n (r .station)) us (is-answer r _ is) (length-set (h .ys) n (r .station)) len
           (within step (h .ys) n (h .us) l r us e)))
 
 -- the function on the list, but for the step that it calls
@@ -329,7 +352,7 @@ stepping callee = record {
   outlives = [];
   params = 3;
   locals = locals;
-  body = checking (taking callee (of 4 ∷ of 12 ∷ []) 2 3 4 9 10 11) 2 4;
+  body = checking (taking callee (of 4 ∷ of 12 ∷ []) 2 3 4 9 10 11 (leaving 2 4 11)) 2 4;
 }
 
 -- it meets its promise where the step that it calls meets the step's

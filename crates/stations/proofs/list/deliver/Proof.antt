@@ -41,8 +41,8 @@ use Rattle.stations.proofs.Fetching.{fetches}
 use Rattle.stations.proofs.Locals.{allocs-all, vacant, apart, paired, frees-laid}
 use Rattle.stations.proofs.OnList.{listVal, roomVal, Entry, with-two, two, meets-two}
 use Rattle.stations.proofs.Placed.{delivered-within, delivered-refused, from-there, to-there, nought}
-use Rattle.stations.proofs.Rows.{R, refused, station-makes, answer-typed}
-use Rattle.stations.proofs.Stepping.{Beside, calls-beside, unchanged, takes}
+use Rattle.stations.proofs.Rows.{R, refused, is-answer, station-makes, answer-typed}
+use Rattle.stations.proofs.Stepping.{Beside, calls-beside, unchanged, takes, leaves}
 use Rattle.stations.proofs.list.delivery_refusal as refusal
 use Rattle.stations.proofs.list.delivery_refusal.Symbol as refusal-def
 use Rattle.stations.proofs.list.delivery_refusal.Symbol.{name as #refusal}
@@ -122,12 +122,13 @@ module _ {M : Type 1} (𝓤 : URA M) (H : Heap 𝓤) (A : Atoms 𝓤) (W : Given
       (and-then ! (load ! (from ! (stop !)) (look ! 19 refl)) (and-then ! (load ! (from ! (stop !)) (look ! 9 refl))
       (and-then ! (load ! (from ! (stop !)) (look ! 15 refl)) (no-more !))))
       (λ s us is-s len given.
+      leaves h (fmOf 𝓤 H (W .laws) 𝓣) 3 4 7 14 13 15 refl t (to-there f t (length (h .ys)) none) s us is-s $
       -- [the list's; κ₀; κ₁; the room's; _0; _1; _3; _4; _7; _8; _9; _10; _14; _13; _15; …; _17; _2; _12; _6; _5; _11; …]
       returns ! (look ! 4 refl) $ forget ! 4 refl $ forget ! 17 refl $ forget ! 19 refl $ forget ! 20 refl $
       move ! (0 ∷ 1 ∷ 2 ∷ 3 ∷ 4 ∷ 5 ∷ 17 ∷ 6 ∷ 7 ∷ 20 ∷ 19 ∷ 8 ∷ 9 ∷ 10 ∷ 11 ∷ 21 ∷ 18 ∷ 13 ∷ 12 ∷ 14 ∷ 15 ∷ 16 ∷ []) $
       move ! (paired 4 18) $
       frees-laid ! m.locals (vacant m.locals l)
-      (by ! (ends (s .answer) (set (h .ys) t (s .station)) us is-s (length-set (h .ys) t (s .station)) len
+      (by ! (ends (s .answer) (set (h .ys) t (s .station)) us (is-answer s _ is-s) (length-set (h .ys) t (s .station)) len
       (delivered-within (h .ys) f t (h .us) none s us given))))))))))
 
 pub deliver-spec : {M : Type 1} → stated.statement M
