@@ -40,7 +40,7 @@ abbrev pub sets : ℕ → Rv → Body → Body
 sets j rv rest = seq (assign (place j []) rv) rest
 
 -- the code: local p points to the station of the number in local i, of the list in local 1
-abbrev pub pointing : ℕ → ℕ → ℕ → Body → Body
+abbrev pointing : ℕ → ℕ → ℕ → Body → Body
 pointing i t p rest = sets t (op2 (mul unsigned) (of i) (int w64 272)) (sets p (op2 offset (part 1 0) (of t)) rest)
 
 abbrev pub fetching : ℕ → ℕ → ℕ → ℕ → ℕ → Body → Body

@@ -18,14 +18,12 @@ module _ {M : Type 1} (𝓤 : URA M) where
   envOf H (local τ h ∷ rest) [] = []
   envOf H (local τ h ∷ rest) (l ∷ ls) = (τ, l) ∷ envOf H rest ls
 
-  -- each local holds a value or is empty; the last stands first, above what is there already
-  abbrev pub slots : List Local → List (ℕ × List Val) → List (Item 𝓤) → List (Item 𝓤)
-  slots [] ls Γ = Γ
-  slots (local τ h ∷ rest) [] Γ = Γ
-  slots (local τ h ∷ rest) ((l, []) ∷ ls) Γ = slots rest ls (‵ (froom τ l 0) ∷ ‵ (fdies τ l) ∷ Γ)
-  slots (local τ h ∷ rest) ((l, v ∷ vs) ∷ ls) Γ = slots rest ls (‵ (fat fullShare τ l 0 v) ∷ ‵ (fdies τ l) ∷ Γ)
+  -- the locals as they are allocated, all empty: the last stands first, above what is there already
+  abbrev pub rooms : List Local → (ℕ → ℕ) → List (Item 𝓤) → List (Item 𝓤)
+  rooms [] l Γ = Γ
+  rooms (local τ h ∷ rest) l Γ = rooms rest (λ j. l (suc j)) (‵ (froom τ (l 0) 0) ∷ ‵ (fdies τ (l 0)) ∷ Γ)
 
-  -- the same, the first above the others, as they are freed
+  -- and as they are freed: the first above the others, each with a value or empty
   abbrev pub laid : List Local → List (ℕ × List Val) → List (Item 𝓤) → List (Item 𝓤)
   laid [] ls Γ = Γ
   laid (local τ h ∷ rest) [] Γ = Γ
@@ -38,9 +36,9 @@ placesOf [] = []
 placesOf ((l, vs) ∷ ls) = l ∷ placesOf ls
 
 -- a place for each local, and all of them empty
-abbrev pub placed : List Local → (ℕ → ℕ) → List ℕ
-placed [] l = []
-placed (x ∷ rest) l = l 0 ∷ placed rest (λ j. l (suc j))
+abbrev pub places : List Local → (ℕ → ℕ) → List ℕ
+places [] l = []
+places (x ∷ rest) l = l 0 ∷ places rest (λ j. l (suc j))
 
 abbrev pub vacant : List Local → (ℕ → ℕ) → List (ℕ × List Val)
 vacant [] l = []
@@ -53,7 +51,7 @@ before b l (suc j) = l j
 -- all locals are allocated, local j at l j
 pub allocs-all : {M : Type 1} {𝓤 : URA M} {H : Heap 𝓤} {A : Atoms 𝓤} {K : Type 0} {W : Given 𝓤 H A} {Γ : List (Item 𝓤)}
     {Kt : Env 𝓤 H → Goal 𝓤 H} → K → (locals : List Local)
-    → ((l : ℕ → ℕ) → Seq K W (slots 𝓤 locals (vacant locals l) Γ) (Kt (envOf 𝓤 H locals (placed locals l))))
+    → ((l : ℕ → ℕ) → Seq K W (rooms 𝓤 locals l Γ) (Kt (envOf 𝓤 H locals (places locals l))))
     → Seq K W Γ (allocs locals Kt)
 allocs-all t [] next = alloc0 t $ next (λ j. j)
 allocs-all t (local τ h ∷ rest) next = alloc1 t (λ b. allocs-all t rest (λ l. next (before b l)))

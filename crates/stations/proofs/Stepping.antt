@@ -173,7 +173,7 @@ leaving i d a =
     (storing (2 + d) i (3 + d) (2 + a) (sets 0 (rvOpd (part (1 + d) 1)) return))
 
 -- the code that goes on only where the number in local i is below the list's length
-abbrev pub checking : Body → ℕ → ℕ → Body
+abbrev checking : Body → ℕ → ℕ → Body
 checking rest i d =
     sets (3 + d) (rvOpd (part 1 1))
     (sets (4 + d) (op2 (le unsigned) (of (3 + d)) (of i))

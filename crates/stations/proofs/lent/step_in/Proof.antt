@@ -62,7 +62,7 @@ use Rattle.stations.specs.List.{ListResult, LeavesList, startedAt, shutA
 use Rattle.stations.specs.Lent.{steppedBy, movedBy}
 use Rattle.stations.proofs.Fetching.{of, sets}
 use Rattle.stations.proofs.Lending.{lentAs, lends-out, comes-back}
-use Rattle.stations.proofs.Locals.{envOf, laid, allocs-all, apart, paired, frees-laid}
+use Rattle.stations.proofs.Locals.{envOf, places, laid, allocs-all, apart, paired, frees-laid}
 use Rattle.stations.proofs.Moving.{All, alls, bytes, stepVal, zerosVal, is-room, moved, told-is, movedVal}
 use Rattle.stations.proofs.Moving.{is-moved, moves, all-typed, room-typed, moved-typed}
 use Rattle.stations.proofs.OnList.{with-two, One, Two, one, two, ByOne, ByTwo}
@@ -133,13 +133,8 @@ module _ {M : Type 1} (𝓤 : URA M) (H : Heap 𝓤) (A : Atoms 𝓤) (W : Given
       owned ! O.the-row (Is O.the-row) (LL.makes O.the-type O′.the-plain 𝓤 H A) r _ is $ done !
 
   module _ (C : Calls 𝓤 H) (Λ : Loops 𝓤 H) (fm : FmC 𝓤 H (W .laws) C) (l : ℕ → ℕ) where
-    -- the locals' places
-    abbrev places : ℕ → ℕ → List ℕ
-    places j zero = []
-    places j (suc n) = l j ∷ places (suc j) n
-
     abbrev E : Env 𝓤 H
-    E = envOf 𝓤 H m.locals (places 0 30)
+    E = envOf 𝓤 H m.locals (places m.locals l)
 
     abbrev empty : ℕ → ℕ → List (ℕ × List Val)
     empty j zero = []

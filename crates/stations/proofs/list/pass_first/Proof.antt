@@ -63,7 +63,7 @@ use Rattle.stations.proofs.Advancing.{none-yet, length-passed, next-pas
 use Rattle.stations.proofs.Asking.{hears}
 use Rattle.stations.proofs.Fetching.{fetches, stores}
 use Rattle.stations.proofs.Lending.{lastly}
-use Rattle.stations.proofs.Locals.{envOf, laid, allocs-all, apart, paired, frees-laid}
+use Rattle.stations.proofs.Locals.{envOf, places, laid, allocs-all, apart, paired, frees-laid}
 use Rattle.stations.proofs.Rows.{R, mach, station-tells, station-makes}
 use Rattle.stations.proofs.list.least as least
 use Rattle.stations.proofs.list.least.Symbol as least-def
@@ -191,8 +191,7 @@ module _ {M : Type 1} (𝓤 : URA M) (H : Heap 𝓤) (A : Atoms 𝓤) (W : Given
 
   module _ (𝓣 : Tables 𝓤 H) (known : Triple 𝓤 (𝓣 .C #pass) (Passed 𝓤 H A mem run)) (l : ℕ → ℕ) where
     abbrev En : Env 𝓤 H
-    En = envOf 𝓤 H m.locals
-        (l 0 ∷ l 1 ∷ l 2 ∷ l 3 ∷ l 4 ∷ l 5 ∷ l 6 ∷ l 7 ∷ l 8 ∷ l 9 ∷ l 10 ∷ l 11 ∷ l 12 ∷ l 13 ∷ [])
+    En = envOf 𝓤 H m.locals (places m.locals l)
 
     -- what the locals hold between the turns, with this result and this test
     abbrev held : List Val → ℕ → ℕ → List Val → List (ℕ × List Val)
