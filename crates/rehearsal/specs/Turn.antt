@@ -16,7 +16,7 @@ use Rattle.rehearsal.specs.Record.{refusalOf}
 use Rattle.rehearsal.specs.Lines.{refusedLine, printedOf}
 use Rattle.rehearsal.specs.Run.{exhausted, ended, afterTaken}
 
--- a segment and a progress less their stations
+-- a segment less its stations, and where the next record begins
 abbrev pub readIn : Segment → ℕ → ℕ → Bool → Reading
 readIn segment at number done =
     record {
@@ -30,10 +30,11 @@ readIn segment at number done =
       done = done;
     }
 
+-- how far a progress has read
 abbrev pub readingOf : Progress → Reading
 readingOf p = readIn (p .segment) (p .at) (p .number) (p .done)
 
--- and with these stations
+-- the segment that was read, with these stations
 abbrev pub segmentOf : List Station → Reading → Segment
 segmentOf stations reading =
     record {
@@ -45,6 +46,7 @@ segmentOf stations reading =
       begun = reading .begun;
     }
 
+-- the progress that was read, with these stations
 abbrev pub progressOf : List Station → Reading → Progress
 progressOf stations reading =
     record {
@@ -80,6 +82,7 @@ taking p kind body =
       reading = readingOf (afterTaken p kind body);
     }
 
+-- the record of this kind: taken, or refused
 abbrev pub recordTurn : Progress → Kind → List ℕ → Turn
 recordTurn p kind body =
     cond (eqb (refusalOf (p .segment) kind body) 0) (taking p kind body)

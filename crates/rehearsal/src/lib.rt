@@ -1,5 +1,4 @@
 // The rehearsal of a segment of stations from a script.
-mod lent; // the steps on the stations in their list
 pub mod segment; // the segment that a script describes
 pub mod kinds; // the kinds of records
 mod reading; // how far a script was read

@@ -2,19 +2,20 @@
 use crate::kinds::Kind;
 use crate::kinds::body_length;
 use crate::kinds::kind_number;
-use crate::lent::deliver_in;
-use crate::lent::shutdown_in;
-use crate::lent::startup_in;
 use crate::reading::Reading;
 use station::making::new_station;
 use station::station::Station;
+use stations::lent::deliver_in;
 use stations::lent::pass_all_in;
+use stations::lent::shutdown_in;
+use stations::lent::startup_in;
 use sums::number;
 ghost use mathlib.Core.Path.{_≡_};
 ghost use mathlib.Core.List.{[]};
 ghost use Prim.Native.Nat.{_*_, _+_, _≤_};
 ghost use lib.ListN.{length, getD, set};
-ghost use Rattle.stations.specs.List.{allPassed};
+ghost use Rattle.station.specs.Passing.{freshRoom};
+ghost use Rattle.stations.specs.List.{startedAt, shutAt, deliveredAt, allPassed};
 ghost use Rattle.rehearsal.specs.Kinds.{bodyLength};
 ghost use Rattle.rehearsal.specs.Record.{stationIn, afterRecord};
 ghost use Rattle.rehearsal.specs.Run.{afterTaken};
@@ -40,7 +41,7 @@ fn station_in(reading: Reading, body: &[u8]) -> Station
 }
 
 // The stations with the one that a body describes at the first number that is not used; past the end nothing is done.
-fn with_station(stations: [Station; 16], reading: Reading, body: &[u8]) -> [Station; 16]
+fn station_record(stations: [Station; 16], reading: Reading, body: &[u8]) -> [Station; 16]
     requires { ⌜ 6 ≤ length (now body) ⌝ }
     ensures { λ r. ⌜ r ≡ set stations (reading .used)
         (stationIn (segmentOf [] reading) (now (body .entry))) ⌝ }
@@ -54,14 +55,48 @@ fn with_station(stations: [Station; 16], reading: Reading, body: &[u8]) -> [Stat
     after
 }
 
+// The station that a body names starts up. No script sees the answer, here and below.
+fn startup_record(stations: [Station; 16], body: &[u8]) -> [Station; 16]
+    requires { ⌜ 1 ≤ length (now body) ⌝ }
+    ensures { λ r. ⌜ r ≡ startedAt stations (getD (now (body .entry)) 0 0) freshRoom .stations ⌝ }
+{
+    let at = body[0] as usize;
+    let moved = startup_in(stations, at);
+    let after = moved.stations;
+    after
+}
+
+// The station that a body names shuts down.
+fn shutdown_record(stations: [Station; 16], body: &[u8]) -> [Station; 16]
+    requires { ⌜ 1 ≤ length (now body) ⌝ }
+    ensures { λ r. ⌜ r ≡ shutAt stations (getD (now (body .entry)) 0 0) freshRoom .stations ⌝ }
+{
+    let at = body[0] as usize;
+    let moved = shutdown_in(stations, at);
+    let after = moved.stations;
+    after
+}
+
 // So many ticks as a body says pass at the stations that are used.
-fn clock_in(stations: [Station; 16], used: usize, body: &[u8]) -> [Station; 16]
+fn clock_record(stations: [Station; 16], used: usize, body: &[u8]) -> [Station; 16]
     requires { ⌜ 2 ≤ length (now body) ⌝ }
     ensures { λ r. ⌜
         r ≡ allPassed (256 * getD (now (body .entry)) 0 0 + getD (now (body .entry)) 1 0) used stations ⌝ }
 {
     let ticks = 256 * (body[0] as u32) + (body[1] as u32);
     pass_all_in(stations, used, ticks)
+}
+
+// The latest advertisement of the first station that a body names is handed to the second.
+fn deliver_record(stations: [Station; 16], body: &[u8]) -> [Station; 16]
+    requires { ⌜ 2 ≤ length (now body) ⌝ }
+    ensures { λ r. ⌜ r ≡ deliveredAt stations (getD (now (body .entry)) 0 0) (getD (now (body .entry)) 1 0) freshRoom .stations ⌝ }
+{
+    let from = body[0] as usize;
+    let to = body[1] as usize;
+    let moved = deliver_in(stations, from, to);
+    let after = moved.stations;
+    after
 }
 
 // The stations after a record of this kind.
@@ -77,11 +112,11 @@ pub fn stations_after(
     match kind {
         Kind::Unknown => stations,
         Kind::NewSegment => stations,
-        Kind::NewStation => with_station(stations, reading, body),
-        Kind::Startup => startup_in(stations, body[0] as usize),
-        Kind::Shutdown => shutdown_in(stations, body[0] as usize),
-        Kind::Clock => clock_in(stations, reading.used, body),
-        Kind::Deliver => deliver_in(stations, body[0] as usize, body[1] as usize),
+        Kind::NewStation => station_record(stations, reading, body),
+        Kind::Startup => startup_record(stations, body),
+        Kind::Shutdown => shutdown_record(stations, body),
+        Kind::Clock => clock_record(stations, reading.used, body),
+        Kind::Deliver => deliver_record(stations, body),
     }
 }
 

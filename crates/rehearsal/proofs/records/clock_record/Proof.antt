@@ -1,9 +1,9 @@
--- `rehearsal::records::clock_in` meets its contract.
+-- `rehearsal::records::clock_record` meets its contract.
 -- Assumes nothing.
 use native.Mathlib.Omega.{arith}
 use borrow.Author.Needs.{needs}
-use Rattle.rehearsal.proofs.records.clock_in.Statement.{statement}
-use Rattle.rehearsal.proofs.records.clock_in.Tie as tie
+use Rattle.rehearsal.proofs.records.clock_record.Statement.{statement}
+use Rattle.rehearsal.proofs.records.clock_record.Tie as tie
 
 shared-slice-read-ticks : tie.Need-shared-slice-read-ticks
 shared-slice-read-ticks c = search needs
@@ -29,8 +29,8 @@ pass-all-in-requires c κs = search needs
 returns : tie.Need-returns
 returns c = search needs
 
-pub clock-in-spec : {M : Type 1} → statement M
-clock-in-spec =
+pub clock-record-spec : {M : Type 1} → statement M
+clock-record-spec =
     tie.close
     (tie.spec
     shared-slice-read-ticks

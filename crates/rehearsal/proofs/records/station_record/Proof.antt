@@ -1,12 +1,12 @@
--- `rehearsal::records::with_station` meets its contract.
+-- `rehearsal::records::station_record` meets its contract.
 -- Assumes nothing.
 use mathlib.Core.Path.{ap}
 use native.Mathlib.Omega.{arith}
 use lib.ListN.{set}
 use Rattle.rehearsal.proofs.Taking.{set-past}
 use borrow.Author.Needs.{needs}
-use Rattle.rehearsal.proofs.records.with_station.Statement.{statement}
-use Rattle.rehearsal.proofs.records.with_station.Tie as tie
+use Rattle.rehearsal.proofs.records.station_record.Statement.{statement}
+use Rattle.rehearsal.proofs.records.station_record.Tie as tie
 
 station-in-requires : tie.Need-station-in-requires
 station-in-requires c κs = search needs
@@ -28,6 +28,6 @@ returns-2 c =
     let start = c .before .before .before in
     set-past (start .args .stations) (start .args .reading .used) _ (omega (arith, c .if1 .left))
 
-pub with-station-spec : {M : Type 1} → statement M
-with-station-spec =
+pub station-record-spec : {M : Type 1} → statement M
+station-record-spec =
     tie.close (tie.spec station-in-requires mul-after array-set-from-after returns returns-2)
