@@ -90,7 +90,8 @@ fn clock_record(stations: [Station; 16], used: usize, body: &[u8]) -> [Station; 
 // The latest advertisement of the first station that a body names is handed to the second.
 fn deliver_record(stations: [Station; 16], body: &[u8]) -> [Station; 16]
     requires { ⌜ 2 ≤ length (now body) ⌝ }
-    ensures { λ r. ⌜ r ≡ deliveredAt stations (getD (now (body .entry)) 0 0) (getD (now (body .entry)) 1 0) freshRoom .stations ⌝ }
+    ensures { λ r. ⌜ r ≡ deliveredAt stations (getD (now (body .entry)) 0 0) (getD (now (body .entry)) 1 0)
+        freshRoom .stations ⌝ }
 {
     let from = body[0] as usize;
     let to = body[1] as usize;
