@@ -1,4 +1,6 @@
 // Judges one packet from standard input, and says by which rule it is refused or what it announces.
+use judging::judging::Fields;
+use judging::judging::Judged;
 use libc::STDIN_FILENO;
 use libc::STDOUT_FILENO;
 use text::put;
@@ -6,8 +8,6 @@ use text::put_address;
 use text::put_byte;
 use text::put_decimal;
 use text::put_dotted;
-use wire::judging::Fields;
-use wire::judging::Judged;
 ghost use Prim.Native.Nat.{_+_, _≤_};
 ghost use lib.ListN.{length};
 
@@ -126,7 +126,7 @@ fn put_accepted(out: &mut [u8], packet: &[u8], fields: Fields) -> usize
 fn put_judged(out: &mut [u8], packet: &[u8]) -> usize
     ensures { λ r. ⌜ r ≤ length (now (out .exit)) ⌝ }
 {
-    match wire::judging::judge(packet) {
+    match judging::judging::judge(packet) {
         Judged::Accepted(fields) => put_accepted(out, packet, fields),
         Judged::Refused(number) => put_refused(out, number),
     }

@@ -10,8 +10,8 @@ use lib.Seq.{drop-cons, take-add, length-take-le}
 use borrow.Rule.Slice.PartMut.{midOf, putMid}
 use Rattle.sums.specs.Total.{numberOf}
 use Rattle.wire.specs.Reading.{numberAt}
-use Rattle.wire.specs.Arp.{arpOf}
-use Rattle.wire.specs.Writing.{over}
+use Rattle.writing.specs.Arp.{arpOf}
+use Rattle.writing.specs.Writing.{over}
 use Rattle.output.specs.Output.{arpsOf}
 use Rattle.output.proofs.Parts.{part-behind}
 

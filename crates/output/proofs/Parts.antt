@@ -7,7 +7,7 @@ use native.Mathlib.Omega.{arith}
 use lib.ListN.{length, take, drop, length-append, length-drop, drop-of-length-le}
 use lib.Seq.{take-all, take-append-seam, drop-append-seam, drop-drop}
 use borrow.Rule.Slice.PartMut.{midOf, postOf, putMid}
-use Rattle.wire.specs.Writing.{over}
+use Rattle.writing.specs.Writing.{over}
 
 -- such a part is all that follows the place
 module _ (room : List ℕ) (at : ℕ) where

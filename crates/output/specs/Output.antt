@@ -2,8 +2,8 @@
 use Prim.Native.Nat.{ℕ, _+_, _*_, _/_}
 use mathlib.Core.List.{List, [], _∷_, _++_}
 use Rattle.sums.specs.Total.{numberOf}
-use Rattle.wire.specs.Frame.{frameOf}
-use Rattle.wire.specs.Arp.{arpOf}
+use Rattle.writing.specs.Frame.{frameOf}
+use Rattle.writing.specs.Arp.{arpOf}
 use Rattle.router.specs.declared.record.Router.{Router}
 use Rattle.router.specs.declared.step.Writes.{Writes}
 use Rattle.router.specs.declared.step.Writes.the-variants.{Nothing, Advertisement, Farewell, Takeover}

@@ -2,12 +2,12 @@
 use router::record::Router;
 use router::step::Writes;
 use sums::number;
-use wire::arp::put_arp;
-use wire::frame::put_advertisement;
+use writing::arp::put_arp;
+use writing::frame::put_advertisement;
 ghost use mathlib.Core.Path.{_≡_};
 ghost use Prim.Native.Nat.{_*_, _/_, _%_, _≤_};
 ghost use lib.ListN.{length};
-ghost use Rattle.wire.specs.Writing.{over};
+ghost use Rattle.writing.specs.Writing.{over};
 ghost use Rattle.output.specs.Output.{arpsOf, bytesOf, needOf};
 
 // How many bytes the frames of an event have: the room that putting them takes.

@@ -9,7 +9,7 @@ use native.Mathlib.Decide.{decLt}
 use native.Mathlib.Omega.{arith}
 use lib.ListN.{length, take, getD, set, length-append, length-map, length-take}
 use lib.Seq.{take-all}
-use Rattle.wire.specs.Writing.{over}
+use Rattle.writing.specs.Writing.{over}
 use Rattle.text.specs.Appended.{puts, Appended}
 use Rattle.text.specs.Digits.{decimalOf}
 use Rattle.text.proofs.Appending.{length-puts, appended}

@@ -10,7 +10,7 @@ use lib.Dec.{eqb, ltb, leb}
 use lib.ListN.{length, drop, getD, length-append, length-drop, length-take}
 use borrow.Author.Tests.{lt-ltb, le-ltb, leb-true, leb-false, not-false}
 use borrow.Rule.Slice.PartMut.{midOf, putMid}
-use Rattle.wire.specs.Writing.{over}
+use Rattle.writing.specs.Writing.{over}
 use Rattle.wire.proofs.Tested.{second-fails}
 use Rattle.output.proofs.Parts.{part-behind}
 use Rattle.station.specs.declared.station.Stepped.{Stepped}

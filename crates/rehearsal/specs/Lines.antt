@@ -5,7 +5,7 @@ use mathlib.Core.List.{List, [], _∷_, _++_, map}
 use mathlib.Core.Bool.{cond}
 use lib.Dec.{ltb}
 use lib.ListN.{length, take}
-use Rattle.wire.specs.Writing.{over}
+use Rattle.writing.specs.Writing.{over}
 use Rattle.router.specs.declared.record.State.{State}
 use Rattle.router.specs.declared.record.State.the-variants.{Initialize, Backup, Master}
 use Rattle.text.specs.Digits.{decimalOf}

@@ -8,7 +8,7 @@ use Rattle.sums.specs.Total.{numberOf}
 use Rattle.wire.specs.Check.{firstRefusal}
 use Rattle.station.specs.declared.station.Station.{Station}
 use Rattle.station.specs.Making.{madeOf}
-use Rattle.station.specs.Passing.{freshRoom}
+use Rattle.passing.specs.Passing.{freshRoom}
 use Rattle.stations.specs.List.{startedAt, shutAt, deliveredAt, allPassed}
 use Rattle.rehearsal.specs.declared.segment.Segment.{Segment}
 use Rattle.rehearsal.specs.declared.kinds.Kind.{Kind}

@@ -14,7 +14,7 @@ ghost use mathlib.Core.Path.{_≡_};
 ghost use mathlib.Core.List.{[]};
 ghost use Prim.Native.Nat.{_*_, _+_, _≤_};
 ghost use lib.ListN.{length, getD, set};
-ghost use Rattle.station.specs.Passing.{freshRoom};
+ghost use Rattle.passing.specs.Passing.{freshRoom};
 ghost use Rattle.stations.specs.List.{startedAt, shutAt, deliveredAt, allPassed};
 ghost use Rattle.rehearsal.specs.Kinds.{bodyLength};
 ghost use Rattle.rehearsal.specs.Record.{stationIn, afterRecord};

@@ -1,16 +1,16 @@
 // The calls with a room. Each record function reads its record's body, makes the call and puts its line; it answers 0
 // where the record is bad: no line is empty. A room has at most 1,023 bytes.
 use crate::lines::put_with_room;
+use events::answer::Answered;
+use judging::judging::Judged;
+use judging::judging::judge;
 use records::fresh_room;
 use records::read_part;
 use sums::number;
-use table::answer::Answered;
 use table::calls::clock;
 use table::calls::packet;
 use table::calls::shutdown;
 use table::calls::startup;
-use wire::judging::Judged;
-use wire::judging::judge;
 use wire::reading::word;
 ghost use Prim.Native.Nat.{_≤_};
 ghost use lib.ListN.{length};

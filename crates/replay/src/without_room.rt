@@ -1,9 +1,9 @@
 // The calls without a room. Each function reads its record's body, makes the call and puts its line; it answers 0 where
 // the record is bad: no line is empty.
 use crate::lines::put_without_room;
+use events::answer::Told;
 use records::read_part;
 use sums::number;
-use table::answer::Told;
 use table::calls::configure;
 use table::calls::empty;
 use table::calls::question;

@@ -11,11 +11,11 @@ use lib.Dec.{eqb, ltb}
 use lib.ListN.{length, replicate}
 use borrow.Author.Tests.{le-ltb, ltb-false, eqb-true, eqb-false}
 use Rattle.sums.specs.Sum.{plus, sumOf}
-use Rattle.wire.specs.Packet.{causeOf, headerSumWrong, notOurs}
-use Rattle.wire.specs.Message.{versionWrong, tooShort, messageSumWrong}
-use Rattle.wire.specs.Judging.{refusalOf, fieldsOf, judgedOf}
-use Rattle.wire.specs.Frame.{messageChecksum, messageOf, headerChecksum, headerOf, packetOf, frameOf}
-use Rattle.wire.specs.Writing.{addressBytesWrong}
+use Rattle.judging.specs.Packet.{causeOf, headerSumWrong, notOurs}
+use Rattle.judging.specs.Message.{versionWrong, tooShort, messageSumWrong}
+use Rattle.judging.specs.Judging.{refusalOf, fieldsOf, judgedOf}
+use Rattle.writing.specs.Frame.{messageChecksum, messageOf, headerChecksum, headerOf, packetOf, frameOf}
+use Rattle.writing.specs.Writing.{addressBytesWrong}
 use Rattle.router.specs.Timers.{skewOf, masterDownOf, advertisementIntervalOf}
 use Rattle.router.specs.Step.{stepOf}
 use Rattle.router.specs.Clock.{tickedOf}
@@ -24,16 +24,16 @@ use Rattle.router.specs.declared.record.State.{State}
 use Rattle.router.specs.declared.record.State.the-variants.{Initialize, Backup, Master}
 use Rattle.places.specs.Layout.{decodeOf, encodeOf}
 use Rattle.places.specs.Place.{recordAt, setRecord, placeFrom, placeOf, primaryOf}
-use Rattle.table.specs.Lists.{listAt, setList, theirList, listsMatch}
-use Rattle.table.specs.Result.{routerPlace, actedOf}
-use Rattle.table.specs.Configuring.{isFound, emptyOf, configureRefusal}
-use Rattle.table.specs.Events.{happenedOf, clockedOf}
-use Rattle.table.specs.Packets.{heardOf}
-use Rattle.table.specs.Histories.{Call, configure, Memory, after, begun, GivenAll}
+use Rattle.events.specs.Lists.{listAt, setList, theirList, listsMatch}
+use Rattle.events.specs.Result.{routerPlace, actedOf}
+use Rattle.configuring.specs.Configuring.{isFound, emptyOf, configureRefusal}
+use Rattle.events.specs.Events.{happenedOf, clockedOf}
+use Rattle.packets.specs.Packets.{heardOf}
+use Rattle.histories.specs.Histories.{Call, configure, Memory, after, begun, GivenAll}
 use Rattle.segment.specs.Segment.{routerOf, addressesOf, primaryAddress, IsMaster, Reached, Stands, stationAt, Segment, Delivery}
 use Rattle.segment.specs.Segment.{FromMasters, Has}
 use Rattle.segment.proofs.States.{not-master}
-use Rattle.table.proofs.Held.{same-or-not}
+use Rattle.histories.proofs.Held.{same-or-not}
 use Rattle.sums.proofs.Bytes.{bytes-each}
 use Rattle.segment.specs.Examples.{virtualAddress, Kind, idle, waiting, leading, callsOf, stationOf, kindOf, rowFrom, sixteen}
 use Rattle.segment.specs.Examples.{deliver, fromOne, fromSome, deliveries, Met, Needed}

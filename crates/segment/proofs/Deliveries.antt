@@ -10,7 +10,7 @@ use lib.Dec.{eqb}
 use lib.ListN.{length, getD, set, drop, length-set}
 use lib.Seq.{getD-set-same, getD-set-other}
 use borrow.Author.Tests.{eqb-true, eqb-false, ne-eqb}
-use Rattle.wire.specs.Frame.{frameOf}
+use Rattle.writing.specs.Frame.{frameOf}
 use Rattle.router.specs.declared.record.Router.{Router}
 use Rattle.router.specs.declared.record.State.{State}
 use Rattle.router.specs.declared.record.State.the-variants.{Master}
@@ -19,11 +19,11 @@ use Rattle.router.specs.Step.{stepIn}
 use Rattle.router.specs.Accept.{acceptedOf}
 use Rattle.places.specs.Place.{recordAt}
 use Rattle.places.proofs.Records.{read-in-range}
-use Rattle.table.specs.Histories.{packet, Memory, called, after, begun}
-use Rattle.table.proofs.Sought.{sought-word}
-use Rattle.table.proofs.Held.{Held, same-or-not}
-use Rattle.table.proofs.Begun.{empty-held}
-use Rattle.table.proofs.Histories.{history-held}
+use Rattle.histories.specs.Histories.{packet, Memory, called, after, begun}
+use Rattle.events.proofs.Sought.{sought-word}
+use Rattle.histories.proofs.Held.{Held, same-or-not}
+use Rattle.histories.proofs.Begun.{empty-held}
+use Rattle.histories.proofs.Histories.{history-held}
 use Rattle.segment.specs.Segment.{routerOf, addressesOf, primaryAddress, IsMaster, Reached, Stands, stationAt, Segment}
 use Rattle.segment.specs.Segment.{Outranks, advertisementOf, Delivery, handedOver, afterAll, FromMasters, Has}
 use Rattle.segment.proofs.Standing.{placeAt, On, on-vrid, on-configured, found-is}

@@ -9,13 +9,13 @@ use lib.Dec.{eqb, leb, ltb}
 use lib.ListN.{length, take, drop}
 use borrow.Author.Tests.{eq-eqb, ne-eqb, le-ltb}
 use Rattle.sums.specs.Sum.{Bytes}
-use Rattle.wire.specs.declared.judging.Fields.{Fields}
-use Rattle.wire.specs.declared.judging.Judged.the-variants.{Accepted}
-use Rattle.wire.specs.Frame.{messageOf, packetOf}
-use Rattle.wire.specs.Judging.{judgedOf}
-use Rattle.wire.specs.Writing.{addressBytesWrong}
-use Rattle.wire.proofs.RoundTrip.{accepted, list-stands}
-use Rattle.wire.proofs.Writes.{Writable, frame-fits}
+use Rattle.judging.specs.declared.judging.Fields.{Fields}
+use Rattle.judging.specs.declared.judging.Judged.the-variants.{Accepted}
+use Rattle.writing.specs.Frame.{messageOf, packetOf}
+use Rattle.judging.specs.Judging.{judgedOf}
+use Rattle.writing.specs.Writing.{addressBytesWrong}
+use Rattle.round_trip.proofs.RoundTrip.{accepted, list-stands}
+use Rattle.writing.proofs.Writes.{Writable, frame-fits}
 use Rattle.router.specs.declared.record.State.{State}
 use Rattle.router.specs.declared.record.State.the-variants.{Initialize, Backup, Master}
 use Rattle.router.specs.declared.record.Router.{Router}
@@ -33,11 +33,11 @@ use Rattle.places.specs.declared.place.Found.{Found}
 use Rattle.places.specs.declared.place.Found.the-variants.{At}
 use Rattle.places.specs.Place.{primaryOf, recordAt, setRecord}
 use Rattle.places.proofs.Records.{read-in-range}
-use Rattle.table.specs.Lists.{listAt, theirList, listsMatch}
-use Rattle.table.specs.Result.{Result, routerPlace, actedOf}
-use Rattle.table.specs.Packets.{refusalAt, acceptedAt, heardAt, soughtAt, judgedAt, heardOf}
-use Rattle.table.specs.Histories.{packet, Memory, called}
-use Rattle.table.proofs.Matching.{and-false}
+use Rattle.events.specs.Lists.{listAt, theirList, listsMatch}
+use Rattle.events.specs.Result.{Result, routerPlace, actedOf}
+use Rattle.packets.specs.Packets.{refusalAt, acceptedAt, heardAt, soughtAt, judgedAt, heardOf}
+use Rattle.histories.specs.Histories.{packet, Memory, called}
+use Rattle.events.proofs.Matching.{and-false}
 use Rattle.segment.specs.Segment.{routerOf, addressesOf, primaryAddress}
 use Rattle.segment.proofs.Standing.{placeAt, On, on-sound, on-configured, stored-router, stored-on}
 

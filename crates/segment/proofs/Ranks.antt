@@ -7,7 +7,7 @@ use Prim.Native.Nat.{ℕ, zero, suc, _≤_, _<_}
 use native.Mathlib.Omega.{arith}
 use lib.Dec.{ltb}
 use borrow.Author.Tests.{ltb-true, ltb-false}
-use Rattle.table.proofs.Held.{same-or-not}
+use Rattle.histories.proofs.Held.{same-or-not}
 
 -- the first pair outranks the second
 abbrev pub Above : ℕ → ℕ → ℕ → ℕ → Type 0

@@ -11,10 +11,10 @@ use lib.Dec.{eqb, ltb}
 use lib.ListN.{length}
 use borrow.Author.Tests.{le-ltb, ltb-false, eqb-true, eqb-false}
 use Rattle.sums.proofs.Bytes.{bytes-each}
-use Rattle.wire.specs.Writing.{addressBytesWrong}
+use Rattle.writing.specs.Writing.{addressBytesWrong}
 use Rattle.router.specs.declared.record.State.the-variants.{Master}
-use Rattle.table.specs.Histories.{Memory}
-use Rattle.table.proofs.Held.{same-or-not}
+use Rattle.histories.specs.Histories.{Memory}
+use Rattle.histories.proofs.Held.{same-or-not}
 use Rattle.segment.specs.Segment.{routerOf, primaryAddress, IsMaster, Stands, stationAt, Segment, Outranks, Delivery}
 use Rattle.segment.specs.Segment.{afterAll, FromMasters, Has, EachPair}
 use Rattle.segment.specs.Theorems.{OneMaster}

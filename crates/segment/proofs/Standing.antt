@@ -16,12 +16,12 @@ use Rattle.places.specs.declared.place.Found.the-variants.{At, Nothing}
 use Rattle.places.specs.Place.{baseOf, primaryOf, recordAt, setRecord, placeFrom, placeOf, refusalCount}
 use Rattle.places.proofs.Records.{record-same}
 use Rattle.places.proofs.Words.{first-same, first-other, store-count}
-use Rattle.table.specs.Lists.{listAt}
-use Rattle.table.specs.Result.{routerPlace}
-use Rattle.table.specs.Configuring.{isFound, placeIn}
-use Rattle.table.specs.Histories.{Sound, Memory}
-use Rattle.table.proofs.Sought.{sought-word}
-use Rattle.table.proofs.Held.{Held, kept-range, replace-held, same-or-not}
+use Rattle.events.specs.Lists.{listAt}
+use Rattle.events.specs.Result.{routerPlace}
+use Rattle.configuring.specs.Configuring.{isFound, placeIn}
+use Rattle.histories.specs.Histories.{Sound, Memory}
+use Rattle.events.proofs.Sought.{sought-word}
+use Rattle.histories.proofs.Held.{Held, kept-range, replace-held, same-or-not}
 use Rattle.segment.specs.Segment.{routerOf, addressesOf, primaryAddress}
 
 -- the place of the segment's virtual router

@@ -9,8 +9,8 @@ use lib.ListN.{length}
 use lib.Seq.{getD-set-other}
 use Rattle.router.specs.declared.record.State.{State}
 use Rattle.router.specs.declared.record.State.the-variants.{Initialize, Backup, Master}
-use Rattle.table.specs.Histories.{Memory}
-use Rattle.table.proofs.Held.{same-or-not}
+use Rattle.histories.specs.Histories.{Memory}
+use Rattle.histories.proofs.Held.{same-or-not}
 use Rattle.segment.specs.Segment.{routerOf, primaryAddress, IsMaster, stationAt, Segment, Outranks}
 use Rattle.segment.specs.Segment.{Delivery, handedOver, afterAll, FromMasters, Has}
 use Rattle.segment.specs.Theorems.{OneMaster, OneMasterRemains, MakesNoMaster, BeatenBy, NamesWhoBeatIt, LoneMaster}

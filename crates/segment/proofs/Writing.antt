@@ -9,8 +9,8 @@ use lib.Dec.{ltb}
 use lib.ListN.{length, take, drop}
 use lib.Seq.{take-at}
 use borrow.Author.Tests.{le-ltb}
-use Rattle.wire.specs.Frame.{frameOf}
-use Rattle.wire.specs.Writing.{over}
+use Rattle.writing.specs.Frame.{frameOf}
+use Rattle.writing.specs.Writing.{over}
 use Rattle.router.specs.declared.record.Router.{Router}
 use Rattle.router.specs.declared.record.State.{State}
 use Rattle.router.specs.declared.record.State.the-variants.{Initialize, Backup, Master}
@@ -24,11 +24,11 @@ use Rattle.output.specs.Output.{bytesOf}
 use Rattle.output.proofs.Lengths.{frame-length}
 use Rattle.places.specs.declared.place.Found.the-variants.{At}
 use Rattle.router.specs.declared.step.Writes.the-variants.{Advertisement}
-use Rattle.table.specs.Lists.{listAt}
-use Rattle.table.specs.Result.{Result, routerPlace, actedOf}
-use Rattle.table.proofs.Sought.{clocked}
-use Rattle.table.specs.Events.{clockedOf}
-use Rattle.table.specs.Histories.{Memory}
+use Rattle.events.specs.Lists.{listAt}
+use Rattle.events.specs.Result.{Result, routerPlace, actedOf}
+use Rattle.events.proofs.Sought.{clocked}
+use Rattle.events.specs.Events.{clockedOf}
+use Rattle.histories.specs.Histories.{Memory}
 use Rattle.segment.specs.Segment.{routerOf, addressesOf, IsMaster, Stands, advertisementOf}
 use Rattle.segment.specs.Theorems.{OwnWriting}
 use Rattle.segment.proofs.Standing.{placeAt}

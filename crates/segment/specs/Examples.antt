@@ -8,7 +8,7 @@ use lib.Dec.{eqb, ltb}
 use lib.ListN.{replicate}
 use Rattle.router.specs.declared.record.State.{State}
 use Rattle.router.specs.declared.record.State.the-variants.{Master}
-use Rattle.table.specs.Histories.{Call, configure, startup, clock, Memory, after, begun}
+use Rattle.histories.specs.Histories.{Call, configure, startup, clock, Memory, after, begun}
 use Rattle.segment.specs.Segment.{routerOf, IsMaster, stationAt, Segment, Delivery, afterAll, FromMasters, EachPair}
 
 abbrev pub virtualAddress : List ℕ

@@ -6,16 +6,16 @@ use mathlib.Core.List.{List, [], _∷_}
 use mathlib.Core.Bool.{true, false}
 use lib.ListN.{length, getD, set, drop}
 use Rattle.sums.specs.Sum.{Bytes}
-use Rattle.wire.specs.Writing.{addressBytesWrong}
+use Rattle.writing.specs.Writing.{addressBytesWrong}
 use Rattle.router.specs.declared.record.Router.{Router}
 use Rattle.router.specs.declared.record.State.the-variants.{Master}
 use Rattle.router.specs.declared.step.Writes.the-variants.{Advertisement}
 use Rattle.output.specs.Output.{bytesOf}
 use Rattle.places.specs.Place.{primaryOf, recordAt}
-use Rattle.table.specs.Lists.{listAt}
-use Rattle.table.specs.Result.{routerPlace}
-use Rattle.table.specs.Configuring.{isFound, placeIn}
-use Rattle.table.specs.Histories.{Call, packet, Memory, called, after, begun, GivenAll}
+use Rattle.events.specs.Lists.{listAt}
+use Rattle.events.specs.Result.{routerPlace}
+use Rattle.configuring.specs.Configuring.{isFound, placeIn}
+use Rattle.histories.specs.Histories.{Call, packet, Memory, called, after, begun, GivenAll}
 
 -- a station is the memory of its table; of the segment's virtual router it has the record and the address list
 abbrev pub routerOf : ℕ → Memory → Router

@@ -3,8 +3,8 @@ use Prim.Native.Nat.{ℕ, _+_, _≤_, _<_}
 use mathlib.Core.Path.{_≡_}
 use mathlib.Core.List.{List}
 use lib.ListN.{length, take, drop}
-use Rattle.table.specs.Events.{clockedOf}
-use Rattle.table.specs.Histories.{Memory}
+use Rattle.events.specs.Events.{clockedOf}
+use Rattle.histories.specs.Histories.{Memory}
 use Rattle.segment.specs.Segment.{routerOf, IsMaster, Stands, stationAt, Segment, Outranks, advertisementOf}
 use Rattle.segment.specs.Segment.{Delivery, afterAll, FromMasters, Has, EachPair}
 

@@ -7,13 +7,13 @@ use native.Mathlib.Omega.{arith}
 use lib.ListN.{length, take, drop}
 use lib.Seq.{take-append-le}
 use borrow.Author.Tests.{lt-ltb, le-ltb, eq-eqb, ne-eqb}
-use Rattle.wire.specs.Writing.{over}
+use Rattle.writing.specs.Writing.{over}
 use Rattle.router.specs.declared.step.Writes.{Writes}
 use Rattle.router.specs.declared.step.Writes.the-variants.{Nothing, Advertisement, Farewell, Takeover}
 use Rattle.router.specs.declared.step.Outcome.{Outcome}
 use Rattle.output.specs.Output.{needOf}
 use Rattle.output.proofs.Lengths.{bytes-length}
-use Rattle.table.specs.declared.answer.Answered.the-variants.{Done, Short}
+use Rattle.events.specs.declared.answer.Answered.the-variants.{Done, Short}
 use Rattle.station.specs.declared.station.Station.{Station}
 use Rattle.station.specs.declared.station.Stepped.{Stepped}
 use Rattle.station.specs.Station.{Result, Leaves, listOf, withRouter, withFrame}

@@ -1,11 +1,3 @@
 pub mod Arrays
 pub mod Acted
-pub mod Heard
 pub mod Made
-pub mod Tables
-pub mod Theorems
-pub mod Keeping
-pub mod Staying
-pub mod Begun
-pub mod ReadBack
-pub mod Firing

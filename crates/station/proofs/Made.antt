@@ -8,11 +8,11 @@ use native.Mathlib.Omega.{arith}
 use lib.Dec.{eqb, ltb}
 use lib.ListN.{length, replicate}
 use borrow.Author.Tests.{eq-eqb, ne-eqb, eqb-false, ltb-false}
-use Rattle.wire.specs.Writing.{addressBytesWrong}
+use Rattle.writing.specs.Writing.{addressBytesWrong}
 use Rattle.wire.proofs.Checks.{passed}
 use Rattle.wire.proofs.Tested.{two-passed}
-use Rattle.table.specs.declared.answer.Answered.the-variants.{Done, Refused}
-use Rattle.table.specs.Configuring.{newRouter, freed}
+use Rattle.events.specs.declared.answer.Answered.the-variants.{Done, Refused}
+use Rattle.configuring.specs.Configuring.{newRouter, freed}
 use Rattle.station.specs.declared.station.Station.{Station}
 use Rattle.station.specs.declared.station.Stepped.{Stepped}
 use Rattle.station.specs.Station.{stationOf}

@@ -4,10 +4,10 @@ use mathlib.Core.List.{List}
 use mathlib.Core.Bool.{cond}
 use lib.Dec.{eqb, ltb}
 use lib.ListN.{length, take}
-use Rattle.wire.specs.Writing.{over}
+use Rattle.writing.specs.Writing.{over}
 use Rattle.router.specs.declared.step.Outcome.{Outcome}
 use Rattle.output.specs.Output.{bytesOf, needOf}
-use Rattle.table.specs.declared.answer.Answered.the-variants.{Done, Short}
+use Rattle.events.specs.declared.answer.Answered.the-variants.{Done, Short}
 use Rattle.station.specs.declared.station.Station.{Station}
 use Rattle.station.specs.Station.{Result, listOf, withRouter, withFrame}
 

@@ -5,9 +5,9 @@ use mathlib.Core.Bool.{Bool, cond}
 use lib.Dec.{eqb}
 use lib.ListN.{length, replicate}
 use Rattle.wire.specs.Check.{Check, firstRefusal}
-use Rattle.wire.specs.Writing.{addressBytesWrong, over}
-use Rattle.table.specs.declared.answer.Answered.the-variants.{Done, Refused}
-use Rattle.table.specs.Configuring.{newRouter, freed}
+use Rattle.writing.specs.Writing.{addressBytesWrong, over}
+use Rattle.events.specs.declared.answer.Answered.the-variants.{Done, Refused}
+use Rattle.configuring.specs.Configuring.{newRouter, freed}
 use Rattle.station.specs.declared.station.Stepped.{Stepped}
 use Rattle.station.specs.Station.{stationOf}
 

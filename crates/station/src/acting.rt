@@ -1,12 +1,12 @@
 // An event's outcome for a station, and the advertisement that it keeps.
 use crate::station::Station;
 use crate::station::Stepped;
+use events::answer::Answered;
 use output::need;
 use output::put_output;
 use router::record::Router;
 use router::step::Outcome;
-use table::answer::Answered;
-use wire::room::put;
+use writing::room::put;
 ghost use mathlib.Core.Path.{_≡_};
 ghost use Prim.Native.Nat.{_*_, _%_, _≤_};
 ghost use lib.ListN.{length};

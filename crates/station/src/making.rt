@@ -1,12 +1,12 @@
 // A station just configured.
+use configuring::configuring::address_count;
+use configuring::configuring::new_router;
 use crate::station::Station;
 use crate::station::Stepped;
+use events::answer::Answered;
 use router::record::Router;
-use table::answer::Answered;
-use table::configuring::address_count;
-use table::configuring::new_router;
-use wire::addresses::address_bytes_wrong;
-use wire::room::put;
+use writing::addresses::address_bytes_wrong;
+use writing::room::put;
 ghost use mathlib.Core.Path.{_≡_};
 ghost use Rattle.station.specs.Station.{stationOf};
 ghost use Rattle.station.specs.Making.{stationRefusal, madeOf};

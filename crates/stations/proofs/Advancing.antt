@@ -5,7 +5,7 @@ use mathlib.Core.Path.{_≡_, refl, ap, _∙_}
 use mathlib.Core.List.{List, [], _∷_}
 use lib.ListN.{length, getD, set}
 use Rattle.station.specs.declared.station.Station.{Station}
-use Rattle.station.specs.Passing.{passed}
+use Rattle.passing.specs.Passing.{passed}
 use Rattle.stations.specs.List.{nowhere, allPassed}
 
 module _ (ticks : ℕ) where

@@ -19,9 +19,9 @@ use denote.Builtin.{u8}
 use denote.Steps.{only}
 use denote.Struct.Laws as LL
 use denote.Enum.Laws as EL
-use Rattle.table.specs.declared.answer.Answered.{Answered}
+use Rattle.events.specs.declared.answer.Answered.{Answered}
 use Rattle.station.specs.declared.station.Station.{Station}
-use Rattle.station.specs.Passing.{roomBytes, freshRoom}
+use Rattle.passing.specs.Passing.{roomBytes, freshRoom}
 use Rattle.station.proofs.station.Station as S
 use Rattle.station.proofs.station.Station.Laws as S′
 use Rattle.stations.specs.declared.lent.Step.{Step}

@@ -30,7 +30,7 @@ use denote.Triple.Clauses.{Clauses, Ended, closing}
 use denote.Triple.Walked.{says, Stays, stay-dropped, gave-slice, walkOf, goes-dropped, goes-gave-slice, ends-at, walked}
 use denote.Triple.Walked.{walk-meets}
 use denote.Exit.{yes}
-use Rattle.table.specs.declared.answer.Answered.{Answered}
+use Rattle.events.specs.declared.answer.Answered.{Answered}
 use Rattle.station.specs.declared.station.Station.{Station}
 use Rattle.stations.specs.List.{ListResult, LeavesList}
 use Rattle.stations.proofs.Fetching.{Lent}

@@ -8,11 +8,11 @@ use lib.Dec.{T, eqb}
 use lib.ListN.{length, getD, set}
 use borrow.Author.Tests.{lt-ltb, le-ltb, eq-eqb, ne-eqb, eqb-true, ltb-true, not-false}
 use Rattle.wire.proofs.Checks.{passed}
-use Rattle.table.specs.declared.answer.Answered.the-variants.{Refused}
+use Rattle.events.specs.declared.answer.Answered.the-variants.{Refused}
 use Rattle.station.specs.declared.station.Station.{Station}
 use Rattle.station.specs.declared.station.Stepped.{Stepped}
 use Rattle.station.specs.Station.{Result, Leaves}
-use Rattle.station.specs.Steps.{deliveredTo}
+use Rattle.steps.specs.Steps.{deliveredTo}
 use Rattle.stations.specs.List.{LeavesList, nowhere, placed, refusesList, steppedAt, deliveryChecks}
 use Rattle.stations.specs.List.{deliveryRefusal, deliveredAt}
 

@@ -14,10 +14,10 @@ use denote.RattleType.{RattleType}
 use denote.Laws.{Is, Tells, Makes}
 use denote.Struct.Laws as LL
 use denote.Enum.Laws as EL
-use Rattle.table.specs.declared.answer.Answered.{Answered}
-use Rattle.table.specs.declared.answer.Answered.the-variants.{Refused}
-use Rattle.table.proofs.answer.Answered as N
-use Rattle.table.proofs.answer.Answered.Laws as N′
+use Rattle.events.specs.declared.answer.Answered.{Answered}
+use Rattle.events.specs.declared.answer.Answered.the-variants.{Refused}
+use Rattle.events.proofs.answer.Answered as N
+use Rattle.events.proofs.answer.Answered.Laws as N′
 use Rattle.station.specs.declared.station.Station.{Station}
 use Rattle.station.specs.declared.station.Stepped.{Stepped}
 use Rattle.station.proofs.station.Station as T

@@ -35,15 +35,15 @@ use denote.Triple.Statement.{Contract, Triple}
 use denote.Triple.Call.{calls-at}
 use denote.Triple.Clauses.{Clauses, Ended, Lasts, closing, ensured, lasts}
 use denote.Exit.{yes}
-use Rattle.table.specs.declared.answer.Answered.{Answered}
-use Rattle.table.specs.declared.answer.Answered.the-variants.{Refused}
-use Rattle.table.proofs.answer.Answered.Laws as N′
+use Rattle.events.specs.declared.answer.Answered.{Answered}
+use Rattle.events.specs.declared.answer.Answered.the-variants.{Refused}
+use Rattle.events.proofs.answer.Answered.Laws as N′
 use Rattle.station.specs.declared.station.Station.{Station}
 use Rattle.station.specs.declared.station.Stepped.{Stepped}
 use Rattle.station.specs.Station.{Result, Leaves}
 use Rattle.station.proofs.station.Station.Laws as T′
 use Rattle.station.proofs.station.Stepped.Laws as S′
-use Rattle.station.proofs.steps.startup as startup
+use Rattle.steps.proofs.steps.startup as startup
 use Rattle.stations.specs.List.{LeavesList, nowhere, steppedAt}
 use Rattle.stations.proofs.Fetching.{of, part, sets, fetching, storing, listTy, kinds, holds, empty, kind, found}
 use Rattle.stations.proofs.Fetching.{reads, Lent, fetches, stores}

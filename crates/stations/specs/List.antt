@@ -7,13 +7,13 @@ use lib.Dec.{eqb, ltb}
 use lib.ListN.{length, take, drop, getD, set, replicate}
 use Rattle.router.specs.declared.step.Event.the-variants.{Startup, Shutdown}
 use Rattle.wire.specs.Check.{Check, firstRefusal}
-use Rattle.table.specs.Configuring.{freed}
-use Rattle.table.specs.declared.answer.Answered.{Answered}
-use Rattle.table.specs.declared.answer.Answered.the-variants.{Refused}
+use Rattle.configuring.specs.Configuring.{freed}
+use Rattle.events.specs.declared.answer.Answered.{Answered}
+use Rattle.events.specs.declared.answer.Answered.the-variants.{Refused}
 use Rattle.station.specs.declared.station.Station.{Station}
 use Rattle.station.specs.Station.{Result, stationOf}
-use Rattle.station.specs.Steps.{happenedTo, clockedBy, deliveredTo}
-use Rattle.station.specs.Passing.{passed}
+use Rattle.steps.specs.Steps.{happenedTo, clockedBy, deliveredTo}
+use Rattle.passing.specs.Passing.{passed}
 
 pub record ListResult : Type 0 where
   pub answer : Answered

@@ -3,7 +3,7 @@ use Prim.Native.Nat.{ℕ}
 use mathlib.Core.Path.{_≡_}
 use mathlib.Core.List.{List}
 use lib.ListN.{length, getD}
-use Rattle.table.specs.declared.answer.Answered.{Answered}
+use Rattle.events.specs.declared.answer.Answered.{Answered}
 use Rattle.station.specs.declared.station.Station.{Station}
 use Rattle.station.specs.Station.{Result}
 use Rattle.stations.specs.List.{ListResult, LeavesList, nowhere, steppedAt, deliveredAt}

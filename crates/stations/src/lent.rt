@@ -1,9 +1,9 @@
 // Plain parameters above the lent list: a copy of the stations is lent, beside a room for what the step writes.
 use crate::list;
+use events::answer::Answered;
 use station::station::Station;
-use table::answer::Answered;
 ghost use mathlib.Core.Path.{_≡_};
-ghost use Rattle.station.specs.Passing.{freshRoom};
+ghost use Rattle.passing.specs.Passing.{freshRoom};
 ghost use Rattle.stations.specs.Lent.{movedBy, steppedBy};
 ghost use Rattle.stations.specs.List.{startedAt, shutAt, clockedAt, allPassed, deliveredAt};
 

@@ -1,21 +1,21 @@
 // The calls of the table, for any memory and any argument.
-use crate::answer::Answered;
-use crate::answer::Told;
-use crate::configuring::clear;
-use crate::configuring::free;
-use crate::configuring::set_up;
-use crate::events::happen;
-use crate::events::tell;
-use crate::events::tick;
-use crate::packets::hear;
+use configuring::configuring::clear;
+use configuring::configuring::free;
+use configuring::configuring::set_up;
+use events::answer::Answered;
+use events::answer::Told;
+use events::events::happen;
+use events::events::tell;
+use events::events::tick;
+use packets::packets::hear;
 use places::interface::refusal_count;
 use router::step::Event;
 ghost use mathlib.Core.Path.{_≡_};
 ghost use Rattle.router.specs.declared.step.Event.the-variants.{Startup, Shutdown};
-ghost use Rattle.table.specs.Result.{Leaves};
-ghost use Rattle.table.specs.Configuring.{emptyOf, Configured, Removed};
-ghost use Rattle.table.specs.Events.{happenedOf, clockedOf, toldOf, interfaceCount};
-ghost use Rattle.table.specs.Packets.{heardOf};
+ghost use Rattle.events.specs.Result.{Leaves};
+ghost use Rattle.configuring.specs.Configuring.{emptyOf, Configured, Removed};
+ghost use Rattle.events.specs.Events.{happenedOf, clockedOf, toldOf, interfaceCount};
+ghost use Rattle.packets.specs.Packets.{heardOf};
 
 // Makes an empty table of an interface with this primary address.
 pub fn empty(words: &mut [u32; 4096], primary: u32)

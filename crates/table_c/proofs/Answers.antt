@@ -3,8 +3,8 @@
 use mathlib.Core.Path.{_≡_, ap, _∙_}
 use mathlib.Core.List.{List}
 use Prim.Native.Nat.{ℕ}
-use Rattle.table.specs.declared.answer.Answered.{Answered}
-use Rattle.table.specs.Result.{Result, Leaves, answerNumber}
+use Rattle.events.specs.declared.answer.Answered.{Answered}
+use Rattle.events.specs.Result.{Result, Leaves, answerNumber}
 use Rattle.table_c.specs.Numbered.{Numbered}
 
 pub numbered : (result : Result) (answered : Answered) (words room : List ℕ) (number : ℕ)

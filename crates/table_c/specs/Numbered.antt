@@ -2,7 +2,7 @@
 use mathlib.Core.Path.{_≡_}
 use mathlib.Core.List.{List}
 use Prim.Native.Nat.{ℕ}
-use Rattle.table.specs.Result.{Result, answerNumber}
+use Rattle.events.specs.Result.{Result, answerNumber}
 
 -- the promise of a call for C: the number, the whole table and the whole room
 pub record Numbered (result : Result) (answer : ℕ) (words room : List ℕ) : Type 0 where

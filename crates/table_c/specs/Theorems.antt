@@ -2,7 +2,7 @@
 use Prim.Native.Nat.{ℕ}
 use mathlib.Core.Path.{_≡_}
 use mathlib.Core.List.{List}
-use Rattle.table.specs.Result.{Result}
+use Rattle.events.specs.Result.{Result}
 use Rattle.table_c.specs.Numbered.{Numbered}
 
 -- two outcomes that the promise of a call for C allows are equal

@@ -1,5 +1,5 @@
 // The table's calls as the benchmark makes them from C: thin over `table`, answering 0 or the refusal's number alone.
-use table::answer::Answered;
+use events::answer::Answered;
 use table::calls::clock;
 use table::calls::configure;
 use table::calls::empty;
@@ -7,10 +7,10 @@ use table::calls::packet;
 use table::calls::startup;
 ghost use mathlib.Core.Path.{_≡_};
 ghost use Rattle.router.specs.declared.step.Event.the-variants.{Startup};
-ghost use Rattle.table.specs.Result.{answerNumber};
-ghost use Rattle.table.specs.Configuring.{emptyOf, Configured};
-ghost use Rattle.table.specs.Events.{happenedOf, clockedOf};
-ghost use Rattle.table.specs.Packets.{heardOf};
+ghost use Rattle.events.specs.Result.{answerNumber};
+ghost use Rattle.configuring.specs.Configuring.{emptyOf, Configured};
+ghost use Rattle.events.specs.Events.{happenedOf, clockedOf};
+ghost use Rattle.packets.specs.Packets.{heardOf};
 ghost use Rattle.table_c.specs.Numbered.{Numbered};
 
 // The number of an answer, without the bytes written, the ticks left over and the room that is needed.

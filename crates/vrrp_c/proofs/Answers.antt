@@ -3,12 +3,12 @@
 use mathlib.Core.Path.{_≡_, sym, ap, _∙_}
 use mathlib.Core.List.{List}
 use Prim.Native.Nat.{ℕ}
-use Rattle.wire.specs.declared.judging.Judged.{Judged}
-use Rattle.wire.specs.declared.room.Written.{Written}
-use Rattle.wire.specs.Judging.{refusalOf, judgedOf, judgedNumber}
-use Rattle.wire.specs.Writing.{writtenNumber, Wrote}
-use Rattle.wire.proofs.Passing.{judged-number}
-use Rattle.wire.proofs.Writes.{answer-number}
+use Rattle.judging.specs.declared.judging.Judged.{Judged}
+use Rattle.writing.specs.declared.room.Written.{Written}
+use Rattle.judging.specs.Judging.{refusalOf, judgedOf, judgedNumber}
+use Rattle.writing.specs.Writing.{writtenNumber, Wrote}
+use Rattle.judging.proofs.Passing.{judged-number}
+use Rattle.writing.proofs.Writes.{answer-number}
 use Rattle.vrrp_c.specs.Answer.{Answered}
 
 -- of judging, by the form that the answer has

@@ -3,9 +3,9 @@ use mathlib.Core.Path.{_≡_}
 use mathlib.Core.List.{List}
 use Prim.Native.Nat.{ℕ}
 use lib.ListN.{length}
-use Rattle.wire.specs.Frame.{frameOf}
-use Rattle.wire.specs.Arp.{arpOf}
-use Rattle.wire.specs.Writing.{advertisementRefusal, arpRefusal, roomAfter}
+use Rattle.writing.specs.Frame.{frameOf}
+use Rattle.writing.specs.Arp.{arpOf}
+use Rattle.writing.specs.Writing.{advertisementRefusal, arpRefusal, roomAfter}
 
 -- the promise of writing for C: the number, and the whole room
 pub record Answered (refusal : ℕ) (frame before : List ℕ) (answer : ℕ) (after : List ℕ) : Type 0 where

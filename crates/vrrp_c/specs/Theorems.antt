@@ -2,7 +2,7 @@
 use Prim.Native.Nat.{ℕ}
 use mathlib.Core.Path.{_≡_}
 use mathlib.Core.List.{List}
-use Rattle.wire.specs.Judging.{refusalOf}
+use Rattle.judging.specs.Judging.{refusalOf}
 use Rattle.vrrp_c.specs.Answer.{Answered}
 
 -- two answers that the promise of judging for C allows are equal

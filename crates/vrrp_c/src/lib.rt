@@ -1,12 +1,12 @@
 // The three calls for C (include/vrrp.h): thin over `wire`, answering 0 or the refusal's number alone.
-use wire::arp::write_arp;
-use wire::frame::write_advertisement;
-use wire::judging::Judged;
-use wire::judging::judge;
-use wire::room::Written;
+use judging::judging::Judged;
+use judging::judging::judge;
+use writing::arp::write_arp;
+use writing::frame::write_advertisement;
+use writing::room::Written;
 ghost use mathlib.Core.Path.{_≡_};
-ghost use Rattle.wire.specs.Judging.{refusalOf};
-ghost use Rattle.wire.specs.Writing.{writtenNumber};
+ghost use Rattle.judging.specs.Judging.{refusalOf};
+ghost use Rattle.writing.specs.Writing.{writtenNumber};
 ghost use Rattle.vrrp_c.specs.Answer.{AdvertisementAnswered, ArpAnswered};
 
 // The number of an answer, without the room that is needed.

@@ -1,13 +1,2 @@
 pub mod Tested
 pub mod Checks
-pub mod Readable
-pub mod Whole
-pub mod Messages
-pub mod Passing
-pub mod Accepted
-pub mod Checksums
-pub mod SameBytes
-pub mod Pasting
-pub mod Writes
-pub mod RoundTrip
-pub mod Theorems

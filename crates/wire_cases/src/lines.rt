@@ -1,13 +1,13 @@
 // The line of each answer.
+use judging::judging::Fields;
+use judging::judging::Judged;
 use text::put;
 use text::put_address;
 use text::put_byte;
 use text::put_decimal;
 use text::put_hex_or_dash;
 use text::put_next;
-use wire::judging::Fields;
-use wire::judging::Judged;
-use wire::room::Written;
+use writing::room::Written;
 ghost use Prim.Native.Nat.{_≤_};
 ghost use lib.ListN.{length};
 
@@ -35,7 +35,7 @@ fn put_fields(line: &mut [u8], fields: Fields) -> usize
 pub fn put_judged(line: &mut [u8], packet: &[u8]) -> usize
     ensures { λ r. ⌜ r ≤ length (now (line .exit)) ⌝ }
 {
-    match wire::judging::judge(packet) {
+    match judging::judging::judge(packet) {
         Judged::Accepted(fields) => put_fields(line, fields),
         Judged::Refused(number) => {
             let at = put_decimal(line, 0, number as u64);

@@ -35,7 +35,7 @@ fn put_advertisement(line: &mut [u8], head: &[u8; 11], addresses: &[u8], room: &
     ensures { λ r. ⌜ r ≤ length (now (line .exit)) ⌝ }
 {
     let primary = number(head[3], head[4], head[5], head[6]);
-    let written = wire::frame::write_advertisement(
+    let written = writing::frame::write_advertisement(
         head[0],
         head[1],
         head[2],
@@ -71,7 +71,7 @@ fn advertisement_case(bytes: &mut [u8], line: &mut [u8]) -> usize
 fn put_arp(line: &mut [u8], vrid: u8, address: u32, room: &mut [u8]) -> usize
     ensures { λ r. ⌜ r ≤ length (now (line .exit)) ⌝ }
 {
-    let written = wire::arp::write_arp(vrid, address, room);
+    let written = writing::arp::write_arp(vrid, address, room);
     put_written(line, written, room)
 }
 

@@ -2,7 +2,7 @@
 -- Assumes nothing.
 use mathlib.Core.Path.{refl}
 use Rattle.sums.specs.Sum.{plus, sumOf}
-use Rattle.wire.specs.Frame.{messageChecksum, messageOf, headerChecksum, headerOf}
+use Rattle.writing.specs.Frame.{messageChecksum, messageOf, headerChecksum, headerOf}
 use Rattle.router.specs.Timers.{skewOf, masterDownOf, advertisementIntervalOf}
 use Rattle.router.specs.Step.{stepOf}
 use Rattle.router.specs.Clock.{tickedOf}

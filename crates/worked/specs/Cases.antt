@@ -4,7 +4,7 @@ use mathlib.Core.Path.{_≡_}
 use mathlib.Core.Bool.{Bool, true, false}
 use mathlib.Core.List.{List, [], _∷_, _++_}
 use lib.ListN.{take, drop, replicate}
-use Rattle.wire.specs.Frame.{headerOf, messageOf}
+use Rattle.writing.specs.Frame.{headerOf, messageOf}
 use Rattle.router.specs.declared.record.State.{State}
 use Rattle.router.specs.declared.record.State.the-variants.{Backup, Master}
 use Rattle.router.specs.declared.record.Router.{Router}

@@ -8,7 +8,7 @@ use borrow.Author.Needs.{needs}
 use lib.ListN.{length, take}
 use lib.Seq.{take-all}
 use denote.Ref.{now}
-use Rattle.wire.specs.Writing.{over}
+use Rattle.writing.specs.Writing.{over}
 use Rattle.output.specs.Output.{arpsOf}
 use Rattle.output.proofs.Arps.{arps-turn}
 use Rattle.output.proofs.put_arps.Statement.{statement}

@@ -6,8 +6,8 @@ use native.Mathlib.Omega.{arith}
 use borrow.Author.Needs.{needs}
 use denote.Ref.{now}
 use lib.ListN.{length}
-use Rattle.wire.specs.Frame.{frameOf}
-use Rattle.wire.specs.Writing.{over}
+use Rattle.writing.specs.Frame.{frameOf}
+use Rattle.writing.specs.Writing.{over}
 use Rattle.router.specs.declared.step.Writes.{Writes}
 use Rattle.router.specs.declared.step.Writes.the-variants.{Takeover}
 use Rattle.output.specs.Output.{arpsOf, bytesOf, needOf}

@@ -5,7 +5,7 @@ use native.Mathlib.Omega.{arith}
 use borrow.Author.Needs.{needs}
 use denote.Ref.{now}
 use lib.ListN.{length}
-use Rattle.wire.proofs.Pasting.{nothing, put-next}
+use Rattle.writing.proofs.Pasting.{nothing, put-next}
 use Rattle.station.proofs.Arrays.{array-long}
 use Rattle.station.proofs.acting.with_frame.Statement.{statement}
 use Rattle.station.proofs.acting.with_frame.Tie as tie

@@ -4,7 +4,7 @@ use mathlib.Core.Path.{refl, sym, _∙_}
 use native.Mathlib.Omega.{arith}
 use borrow.Author.Needs.{needs}
 use denote.Ref.{now}
-use Rattle.wire.proofs.Pasting.{nothing, put-next}
+use Rattle.writing.proofs.Pasting.{nothing, put-next}
 use Rattle.station.proofs.Made.{made-most, made-refused, made-done}
 use Rattle.station.proofs.making.new_station.Statement.{statement}
 use Rattle.station.proofs.making.new_station.Tie as tie

@@ -48,11 +48,11 @@ use denote.Triple.Clauses.{ensured, lasts}
 use denote.Triple.Table.{entered, cited}
 use denote.Triple.Walked.{says, Stays, stay-dropped, walkOf, goes-dropped, Walks, ends-at, walked, walk-meets}
 use denote.Exit.{yes}
-use Rattle.table.specs.declared.answer.Answered.{Answered}
-use Rattle.table.proofs.answer.Answered as N
-use Rattle.table.proofs.answer.Answered.Laws as N′
+use Rattle.events.specs.declared.answer.Answered.{Answered}
+use Rattle.events.proofs.answer.Answered as N
+use Rattle.events.proofs.answer.Answered.Laws as N′
 use Rattle.station.specs.declared.station.Station.{Station}
-use Rattle.station.specs.Passing.{roomBytes, freshRoom}
+use Rattle.passing.specs.Passing.{roomBytes, freshRoom}
 use Rattle.station.proofs.station.Station as S
 use Rattle.station.proofs.station.Station.Laws as S′
 use Rattle.stations.specs.declared.lent.Step.{Step}

@@ -17,9 +17,9 @@ use denote.Triple.Spec.{Meets, tripleOf}
 use denote.Triple.Statement.{Triple}
 use denote.Triple.Clauses.{closing}
 use denote.Triple.Table.{entered, cited}
-use Rattle.station.specs.Steps.{clockedBy}
-use Rattle.station.proofs.steps.clock.Symbol.{name as #clock, routine}
-use Rattle.station.proofs.steps.clock.Met as clock-thm
+use Rattle.steps.specs.Steps.{clockedBy}
+use Rattle.steps.proofs.steps.clock.Symbol.{name as #clock, routine}
+use Rattle.steps.proofs.steps.clock.Met as clock-thm
 use Rattle.stations.specs.List.{nowhere, clockedAt}
 use Rattle.stations.proofs.Locals.{allocs-all, vacant, apart, paired, frees-laid}
 use Rattle.stations.proofs.OnList.{listVal, roomVal, Entry, with-two, two, meets-two}

@@ -30,11 +30,11 @@ use denote.Triple.Statement.{Contract, Triple}
 use denote.Triple.Call.{calls-at}
 use denote.Triple.Clauses.{closing}
 use denote.Triple.Table.{entered, cited}
-use Rattle.table.specs.declared.answer.Answered.the-variants.{Refused}
-use Rattle.station.specs.Steps.{deliveredTo}
-use Rattle.station.proofs.steps.deliver.Symbol as deliver-def
-use Rattle.station.proofs.steps.deliver.Symbol.{name as #deliver}
-use Rattle.station.proofs.steps.deliver.Met as deliver-thm
+use Rattle.events.specs.declared.answer.Answered.the-variants.{Refused}
+use Rattle.steps.specs.Steps.{deliveredTo}
+use Rattle.steps.proofs.steps.deliver.Symbol as deliver-def
+use Rattle.steps.proofs.steps.deliver.Symbol.{name as #deliver}
+use Rattle.steps.proofs.steps.deliver.Met as deliver-thm
 use Rattle.stations.specs.List.{nowhere, deliveryRefusal, deliveredAt}
 use Rattle.stations.proofs.Asking.{hears}
 use Rattle.stations.proofs.Fetching.{fetches}

@@ -51,13 +51,13 @@ use denote.Triple.Walked.{walked, walk-meets}
 use denote.Exit.{yes}
 use borrow.Author.Tests.{lt-ltb, le-ltb}
 use Rattle.station.specs.declared.station.Station.{Station}
-use Rattle.station.specs.Passing.{passed}
+use Rattle.passing.specs.Passing.{passed}
 use Rattle.station.proofs.station.Station as T
 use Rattle.station.proofs.station.Station.Laws as T′
-use Rattle.station.proofs.passing.pass as pass
-use Rattle.station.proofs.passing.pass.Symbol as pass-def
-use Rattle.station.proofs.passing.pass.Symbol.{name as #pass}
-use Rattle.station.proofs.passing.pass.Met as pass-thm
+use Rattle.passing.proofs.passing.pass as pass
+use Rattle.passing.proofs.passing.pass.Symbol as pass-def
+use Rattle.passing.proofs.passing.pass.Symbol.{name as #pass}
+use Rattle.passing.proofs.passing.pass.Met as pass-thm
 use Rattle.stations.specs.List.{nowhere, allPassed}
 use Rattle.stations.proofs.Advancing.{none-yet, length-passed, next-passed, at-end}
 use Rattle.stations.proofs.Asking.{hears}

@@ -7,9 +7,9 @@ use denote.Triple.Table.{entered, cited}
 use Rattle.router.specs.declared.step.Event.the-variants.{Shutdown}
 use Rattle.station.specs.declared.station.Station.{Station}
 use Rattle.station.specs.Station.{Result}
-use Rattle.station.specs.Steps.{happenedTo}
-use Rattle.station.proofs.steps.shutdown.Symbol.{name as #step, routine}
-use Rattle.station.proofs.steps.shutdown.Met as step-thm
+use Rattle.steps.specs.Steps.{happenedTo}
+use Rattle.steps.proofs.steps.shutdown.Symbol.{name as #step, routine}
+use Rattle.steps.proofs.steps.shutdown.Met as step-thm
 use Rattle.stations.proofs.Stepping.{Alone, meets}
 use Rattle.stations.proofs.list.shutdown.Key.{name as #here}
 use Rattle.stations.proofs.list.shutdown as here

@@ -7,9 +7,9 @@ use denote.Triple.Table.{entered, cited}
 use Rattle.router.specs.declared.step.Event.the-variants.{Startup}
 use Rattle.station.specs.declared.station.Station.{Station}
 use Rattle.station.specs.Station.{Result}
-use Rattle.station.specs.Steps.{happenedTo}
-use Rattle.station.proofs.steps.startup.Symbol.{name as #step, routine}
-use Rattle.station.proofs.steps.startup.Met as step-thm
+use Rattle.steps.specs.Steps.{happenedTo}
+use Rattle.steps.proofs.steps.startup.Symbol.{name as #step, routine}
+use Rattle.steps.proofs.steps.startup.Met as step-thm
 use Rattle.stations.proofs.Stepping.{Alone, meets}
 use Rattle.stations.proofs.list.startup.Key.{name as #here}
 use Rattle.stations.proofs.list.startup as here

@@ -3,7 +3,7 @@
 use mathlib.Core.Path.{_∙_}
 use borrow.Author.Needs.{needs}
 use borrow.Author.Tests.{eq-eqb, ne-eqb, lt-ltb, le-ltb}
-use Rattle.table.specs.Events.{interfaceCount}
+use Rattle.events.specs.Events.{interfaceCount}
 use Rattle.table.proofs.calls.interface_count.Statement.{statement}
 use Rattle.table.proofs.calls.interface_count.Tie as tie
 

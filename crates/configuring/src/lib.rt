@@ -1,0 +1,2 @@
+// The virtual routers that a table has.
+pub mod configuring; // an empty table, configuring, removing

@@ -1,0 +1,4 @@
+pub mod Matching
+pub mod Listed
+pub mod Acted
+pub mod Sought

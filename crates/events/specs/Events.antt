@@ -1,0 +1,48 @@
+-- Startup, shutdown, clock and questions on the router of a VRID (01, 'Time', 'State by event').
+use Prim.Native.Nat.{ℕ}
+use mathlib.Core.List.{List}
+use mathlib.Core.Bool.{cond, _||_}
+use lib.Dec.{eqb, ltb}
+use Rattle.router.specs.declared.step.Event.{Event}
+use Rattle.router.specs.Step.{stepOf}
+use Rattle.router.specs.Clock.{tickedOf}
+use Rattle.places.specs.declared.place.Found.{Found}
+use Rattle.places.specs.declared.place.Found.the-variants.{At, Nothing}
+use Rattle.places.specs.Place.{primaryOf, recordAt, refusalCount}
+use Rattle.events.specs.declared.answer.Told.{Told}
+use Rattle.events.specs.declared.answer.Told.the-variants.{Of, Refused}
+use Rattle.events.specs.Result.{Result, refuses, routerPlace, actedOf}
+
+-- an event at the place that was found: "20 VRID not in the table", then the event
+abbrev pub happenedAt : Found → List ℕ → List ℕ → Event → List ℕ → Result
+happenedAt Nothing words lists event room = refuses 20 words room
+happenedAt (At place) words lists event room =
+    actedOf words lists place (stepOf (primaryOf words) (recordAt words place) event) 0 room
+
+-- startup or shutdown of a virtual router
+unfoldable pub happenedOf : List ℕ → List ℕ → ℕ → Event → List ℕ → Result
+happenedOf words lists vrid event room = happenedAt (routerPlace words vrid) words lists event room
+
+-- a clock step at the place that was found
+abbrev pub clockedAt : Found → List ℕ → List ℕ → ℕ → List ℕ → Result
+clockedAt Nothing words lists ticks room = refuses 20 words room
+clockedAt (At place) words lists ticks room =
+    actedOf words lists place (tickedOf (primaryOf words) (recordAt words place) ticks .outcome)
+    (tickedOf (primaryOf words) (recordAt words place) ticks .leftover)
+    room
+
+-- a clock step of a virtual router
+unfoldable pub clockedOf : List ℕ → List ℕ → ℕ → ℕ → List ℕ → Result
+clockedOf words lists vrid ticks room = clockedAt (routerPlace words vrid) words lists ticks room
+
+-- "A question about a VRID answers its state, its remaining timer and its counts"; 20 where it is not in the table
+abbrev pub toldAt : Found → List ℕ → Told
+toldAt Nothing words = Refused 20
+toldAt (At place) words = Of (recordAt words place)
+
+unfoldable pub toldOf : List ℕ → ℕ → Told
+toldOf words vrid = toldAt (routerPlace words vrid) words
+
+-- "Per interface: 1 to 9": how often a refusal was given, 0 for a number that is not counted there
+unfoldable pub interfaceCount : List ℕ → ℕ → ℕ
+interfaceCount words number = cond (eqb number 0 || ltb 9 number) 0 (refusalCount words number)

@@ -1,0 +1,162 @@
+-- The theorems that specs/Theorems.antt states.
+-- Assumes nothing.
+use mathlib.Core.Path.{_≡_, refl, sym, ap, _∙_}
+use mathlib.Core.Logic.{inl, inr, ⊎-elim}
+use mathlib.Core.List.{List, []}
+use mathlib.Core.Bool.{Bool, true, false, cond}
+use Prim.Native.Nat.{ℕ, _*_, _/_, _≤_, _<_}
+use native.Mathlib.Omega.{arith}
+use lib.Dec.{eqb, ltb}
+use lib.ListN.{length}
+use borrow.Author.Tests.{eqb-true}
+use Rattle.judging.specs.declared.judging.Fields.{Fields}
+use Rattle.judging.specs.declared.judging.Judged.{Judged}
+use Rattle.judging.specs.declared.judging.Judged.the-variants.{Accepted, Refused}
+use Rattle.judging.specs.Judging.{judgedOf}
+use Rattle.judging.proofs.Accepted.{refused-most}
+use Rattle.router.specs.declared.record.Router.{Router}
+use Rattle.router.specs.declared.step.Event.{Event}
+use Rattle.router.specs.declared.step.Outcome.{Outcome}
+use Rattle.router.specs.Step.{stepOf}
+use Rattle.router.specs.Accept.{refusedOf}
+use Rattle.router.specs.Clock.{tickedOf}
+use Rattle.output.specs.Output.{needOf}
+use Rattle.places.specs.declared.place.Found.{Found}
+use Rattle.places.specs.declared.place.Found.the-variants.{At, Nothing}
+use Rattle.places.specs.Place.{primaryOf, recordAt, setRecord, placeOf}
+use Rattle.places.proofs.Finding.{found}
+use Rattle.places.proofs.Parts.{part-other, apart}
+use Rattle.places.proofs.Records.{record-other}
+use Rattle.places.proofs.Words.{count-record}
+use Rattle.events.specs.Lists.{listAt, setList}
+use Rattle.events.specs.Result.{Result, routerPlace, actedOf}
+use Rattle.configuring.specs.Configuring.{placeIn, newRouter, freed, configureRefusal, removeRefusal}
+use Rattle.events.specs.Events.{happenedAt, happenedOf, clockedAt, clockedOf}
+use Rattle.packets.specs.Packets.{refusalAt, acceptedAt, soughtAt, judgedAt, heardOf}
+use Rattle.histories.specs.Theorems.{OneResult, OneConfiguring, OneRemoving, EventElsewhere, ClockElsewhere, PacketElsewhere}
+use Rattle.histories.specs.Theorems.{ConfigureElsewhere, ListElsewhere, RemoveElsewhere, LowestFreePlace}
+use Rattle.configuring.proofs.Configures.{configure-most, never-full, never-unknown}
+use Rattle.events.proofs.Sought.{sought-below}
+
+pub one-result : OneResult
+one-result result a b words other room otherRoom x y =
+    (x .answer-is ∙ sym (y .answer-is), x .words-are ∙ sym (y .words-are), x .room-is ∙ sym (y .room-is))
+
+pub one-configuring : OneConfiguring
+one-configuring words lists vrid priority interval preempt addresses a b after other listsAfter listsOther x y =
+    (x .answer-is ∙ sym (y .answer-is), x .words-are ∙ sym (y .words-are), x .lists-are ∙ sym (y .lists-are))
+
+pub one-removing : OneRemoving
+one-removing words vrid a b after other x y = (x .answer-is ∙ sym (y .answer-is), x .words-are ∙ sym (y .words-are))
+
+-- of two results that leave a place as it was, whichever is taken does
+either-elsewhere : (t : Bool) (a b : Result) (words : List ℕ) (q : ℕ) → recordAt (a .words) q ≡ recordAt words q
+    → recordAt (b .words) q ≡ recordAt words q → recordAt (cond t a b .words) q ≡ recordAt words q
+either-elsewhere true a b words q x y = x
+either-elsewhere false a b words q x y = y
+
+-- what acts at a place leaves every other place as it was
+acted-elsewhere : (words lists : List ℕ) (p : ℕ) (o : Outcome) (leftover : ℕ) (room : List ℕ) (q : ℕ) → p < 255 → length words ≡ 4096
+    → (q ≡ p → ⊥) → recordAt (actedOf words lists p o leftover room .words) q ≡ recordAt words q
+unfolding actedOf
+acted-elsewhere words lists p o leftover room q below long n =
+    either-elsewhere (ltb (length room) (needOf (o .writes) (4 * o .router .count))) _ _ words q refl
+    (record-other words p (o .router) below long q n)
+
+happened-elsewhere : (f : Found) (words lists : List ℕ) (v q : ℕ) (e : Event) (room : List ℕ) → routerPlace words v ≡ f
+    → length words ≡ 4096 → (f ≡ At q → ⊥) → recordAt (happenedAt f words lists e room .words) q ≡ recordAt words q
+happened-elsewhere Nothing words lists v q e room s long n = refl
+happened-elsewhere (At p) words lists v q e room s long n =
+    acted-elsewhere words lists p (stepOf (primaryOf words) (recordAt words p) e) 0 room q (sought-below words v p s) long
+    (λ z. n (ap At (sym z)))
+
+pub event-elsewhere : EventElsewhere
+unfolding happenedOf
+event-elsewhere words lists v q e room long n = happened-elsewhere (routerPlace words v) words lists v q e room refl long n
+
+clocked-elsewhere : (f : Found) (words lists : List ℕ) (v q d : ℕ) (room : List ℕ) → routerPlace words v ≡ f
+    → length words ≡ 4096 → (f ≡ At q → ⊥) → recordAt (clockedAt f words lists d room .words) q ≡ recordAt words q
+clocked-elsewhere Nothing words lists v q d room s long n = refl
+clocked-elsewhere (At p) words lists v q d room s long n =
+    acted-elsewhere words lists p (tickedOf (primaryOf words) (recordAt words p) d .outcome)
+    (tickedOf (primaryOf words) (recordAt words p) d .leftover)
+    room q (sought-below words v p s) long (λ z. n (ap At (sym z)))
+
+pub clock-elsewhere : ClockElsewhere
+unfolding clockedOf
+clock-elsewhere words lists v q d room long n = clocked-elsewhere (routerPlace words v) words lists v q d room refl long n
+
+pub heard-elsewhere : (f : Found) (words lists bytes : List ℕ) (fields : Fields) (room : List ℕ) (q : ℕ)
+    → routerPlace words (fields .vrid) ≡ f → length words ≡ 4096 → (f ≡ At q → ⊥)
+    → recordAt (soughtAt f words lists bytes fields room .words) q ≡ recordAt words q
+heard-elsewhere Nothing words lists bytes fields room q s long n = count-record words 9 (omega arith) q
+heard-elsewhere (At p) words lists bytes fields room q s long n =
+    let below = sought-below words (fields .vrid) p s in
+    let other : q ≡ p → ⊥ = λ z. n (ap At (sym z)) in
+    either-elsewhere (eqb (refusalAt words lists p bytes fields) 0) _ _ words q
+    (acted-elsewhere words lists p (acceptedAt words p fields) 0 room q below long other)
+    (record-other words p (refusedOf (recordAt words p) (refusalAt words lists p bytes fields)) below long q other)
+
+judged-elsewhere : (j : Judged) (words lists bytes room : List ℕ) (q : ℕ) → judgedOf bytes ≡ j → length words ≡ 4096
+    → ((fields : Fields) → j ≡ Accepted fields → routerPlace words (fields .vrid) ≡ At q → ⊥)
+    → recordAt (judgedAt j words lists bytes room .words) q ≡ recordAt words q
+judged-elsewhere (Refused number) words lists bytes room q e long n =
+    count-record words number (omega (arith, refused-most bytes number (sym e))) q
+judged-elsewhere (Accepted fields) words lists bytes room q e long n =
+    heard-elsewhere (routerPlace words (fields .vrid)) words lists bytes fields room q refl long (n fields refl)
+
+pub packet-elsewhere : PacketElsewhere
+unfolding heardOf
+packet-elsewhere words lists bytes room q long n = judged-elsewhere (judgedOf bytes) words lists bytes room q refl long n
+
+-- a record put at a place that was found, where nothing is refused
+put-elsewhere : (t : Bool) (f : Found) (words : List ℕ) (r : Router) (q : ℕ) → ((p : ℕ) → f ≡ At p → p < 255)
+    → (t ≡ true → f ≡ Nothing → ⊥) → length words ≡ 4096 → (f ≡ At q → ⊥)
+    → recordAt (cond t (setRecord words (placeIn f) r) words) q ≡ recordAt words q
+put-elsewhere false f words r q below there long n = refl
+put-elsewhere true Nothing words r q below there long n = absurd (there refl refl)
+put-elsewhere true (At p) words r q below there long n =
+    record-other words p r (below p refl) long q (λ z. n (ap At (sym z)))
+
+pub configure-elsewhere : ConfigureElsewhere
+configure-elsewhere words v priority interval preempt addresses q long n =
+    let none = eqb-true (configureRefusal words v priority interval addresses) 0 in
+    put-elsewhere (eqb (configureRefusal words v priority interval addresses) 0) (placeOf words 0) words
+    (newRouter v priority interval preempt (length addresses / 4))
+    q (λ p e. found words 0 p e .below) (λ e f. never-full words [] v priority interval preempt addresses (none e) f)
+    long n
+
+-- address lists stand side by side, 64 bytes each
+list-other : (lists addresses : List ℕ) (p q n : ℕ) → length lists ≡ 16320 → p < 255 → length addresses ≤ 64 → n ≤ 16
+    → (q ≡ p → ⊥) → listAt (setList lists p addresses) q n ≡ listAt lists q n
+unfolding listAt setList
+list-other lists addresses p q n long below most few e =
+    part-other lists addresses (64 * p) (length addresses) (64 * q) (4 * n) (omega arith) refl
+    (⊎-elim (λ x. inl (omega arith)) (λ x. inr (omega arith)) (apart q p e))
+
+put-list-elsewhere : (t : Bool) (f : Found) (lists addresses : List ℕ) (q n : ℕ) → ((p : ℕ) → f ≡ At p → p < 255)
+    → (t ≡ true → (f ≡ Nothing → ⊥) × (length addresses ≤ 64)) → length lists ≡ 16320 → n ≤ 16 → (f ≡ At q → ⊥)
+    → listAt (cond t (setList lists (placeIn f) addresses) lists) q n ≡ listAt lists q n
+put-list-elsewhere false f lists addresses q n below good long few e = refl
+put-list-elsewhere true Nothing lists addresses q n below good long few e = absurd (good refl .0 refl)
+put-list-elsewhere true (At p) lists addresses q n below good long few e =
+    list-other lists addresses p q n long (below p refl) (good refl .1) few (λ z. e (ap At (sym z)))
+
+pub list-elsewhere : ListElsewhere
+list-elsewhere words lists v priority interval addresses q n long few e =
+    let none = eqb-true (configureRefusal words v priority interval addresses) 0 in
+    put-list-elsewhere (eqb (configureRefusal words v priority interval addresses) 0) (placeOf words 0) lists addresses q n
+    (λ p f. found words 0 p f .below)
+    (λ t. (never-full words [] v priority interval false addresses (none t), configure-most words [] v priority interval false addresses (none t)))
+    long few e
+
+pub remove-elsewhere : RemoveElsewhere
+remove-elsewhere words v q long n =
+    put-elsewhere (eqb (removeRefusal words v) 0) (routerPlace words v) words freed q (sought-below words v)
+    (λ e f. never-unknown words v (eqb-true (removeRefusal words v) 0 e) f)
+    long n
+
+pub lowest-free-place : LowestFreePlace
+lowest-free-place words p e =
+    let l = found words 0 p e in
+    (omega (arith, l .below), l .word, λ q b z. l .lowest q (omega arith) b z)

@@ -1,0 +1,147 @@
+-- The table of one station: its words, its one router, and what storing and counting do to it.
+-- Assumes nothing.
+use mathlib.Core.Path.{_≡_, refl, sym, ap, _∙_}
+use mathlib.Core.List.{List, _∷_, _++_, append-assoc}
+use Prim.Native.Nat.{ℕ, zero, suc, _+_, _-_, _*_, _%_, _≤_, _<_}
+use native.Mathlib.Nat.{mod-eq-of-lt}
+use native.Mathlib.Omega.{arith}
+use lib.ListN.{length, getD, set, take, drop, replicate}
+use lib.ListN.{length-append, length-replicate, getD-replicate, List·getD-append}
+use lib.Seq.{paste, take-at, drop-at, take-all, drop-drop, take-append-le, getD-drop, set-append-left}
+use borrow.Author.Tests.{ne-eqb}
+use Rattle.router.specs.declared.record.Router.{Router}
+use Rattle.router.specs.Step.{counted}
+use Rattle.places.specs.declared.place.Found.{Found}
+use Rattle.places.specs.declared.place.Found.the-variants.{At, Nothing}
+use Rattle.places.specs.Layout.{encodeOf}
+use Rattle.places.specs.Place.{baseOf, primaryOf, recordAt, setRecord, placeOf, countRefusal}
+use Rattle.places.proofs.Finding.{find-hit}
+use Rattle.places.proofs.Records.{InRange, encode-length, record-same}
+use Rattle.places.proofs.Words.{first-same}
+use Rattle.events.specs.Lists.{listAt}
+use Rattle.events.specs.Result.{routerPlace}
+use Rattle.events.proofs.Sought.{sought-word}
+use Rattle.station.specs.declared.station.Station.{Station}
+use Rattle.station.specs.Station.{listOf, withRouter}
+use Rattle.steps.specs.Hearing.{countedBy}
+use Rattle.in_tables.specs.Tables.{interfaceOf, wordsOf, listsOf, WellFormed}
+
+-- what is pasted over the middle one of three lists takes its place
+paste-middle : (a b z c : List ℕ) (m n : ℕ) → length a ≡ m → length b ≡ n → length c ≡ n
+    → paste (a ++ (b ++ z)) m c n ≡ a ++ (c ++ z)
+paste-middle a b z c m n la lb lc =
+    let whole = a ++ (b ++ z) in
+    let front = take-at a (b ++ z) m la in
+    let middle = take-all n c (omega arith) in
+    let back = sym (drop-drop n m whole) ∙ ap (drop n) (drop-at a (b ++ z) m la) ∙ drop-at b z n lb in
+    rw (front, middle, back) (append-assoc a c z)
+
+-- behind them stand zeros
+zero-behind : (a b : List ℕ) (m n k i : ℕ) → length a ≡ m → length b ≡ n → i < k
+    → getD (a ++ (b ++ replicate k 0)) (m + n + i) 0 ≡ 0
+zero-behind a b m n k i la lb h =
+    let zeros : List ℕ = replicate k 0 in
+    let whole = a ++ (b ++ zeros) in
+    let back = sym (drop-drop n m whole) ∙ ap (drop n) (drop-at a (b ++ zeros) m la) ∙ drop-at b zeros n lb in
+    sym (getD-drop (m + n) whole i 0) ∙ ap (λ (l : List ℕ). getD l i 0) back ∙ getD-replicate k i 0 0 h
+
+-- one more in the front one of two lists, behind a first number
+count-front : (x : ℕ) (a b z : List ℕ) (k : ℕ) → k < length a
+    → set (x ∷ (a ++ b ++ z)) (suc k) (counted (getD (x ∷ (a ++ b ++ z)) (suc k) 0))
+    ≡ x ∷ (set a k (counted (getD a k 0)) ++ b ++ z)
+count-front x a b z k h =
+    let inside : k < length (a ++ b) = omega (arith, length-append a b) in
+    let v = counted (getD a k 0) in
+    let read = List·getD-append (a ++ b) z 0 k inside ∙ List·getD-append a b 0 k h in
+    let stored = set-append-left (a ++ b) z k v inside ∙ ap (λ (l : List ℕ). l ++ z) (set-append-left a b k v h) in
+    ap (λ (l : List ℕ). x ∷ l) (ap (λ (n : ℕ). set (a ++ b ++ z) k (counted n)) read ∙ stored)
+
+module _ (s : Station) (nine : length (s .refusals) ≡ 9) where
+  interface-length : length (interfaceOf s) ≡ 16
+  interface-length = omega (arith, length-append (s .refusals) (replicate 6 0))
+
+  -- storing a record at the first place is storing it in the station
+  pub store-first : (r : Router) → setRecord (wordsOf s) 0 r ≡ wordsOf (withRouter s r)
+  unfolding wordsOf setRecord
+  store-first r =
+      paste-middle (interfaceOf s) (encodeOf (s .router)) (replicate 4064 0) (encodeOf r) 16 16 interface-length
+      (encode-length (s .router)) (encode-length r)
+
+module _ (s : Station) (w : WellFormed s) where
+  words-length : length (wordsOf s) ≡ 4096
+  unfolding wordsOf
+  words-length =
+      omega (
+        arith,
+        interface-length s (w .refusals),
+        encode-length (s .router),
+        length-append (interfaceOf s) (encodeOf (s .router) ++ replicate 4064 0),
+        length-append (encodeOf (s .router)) (replicate 4064 0),
+        length-replicate {A = ℕ} 4064 0,
+      )
+
+  in-range : InRange (s .router)
+  in-range = record { vrid = w .vrid; priority = w .priority; interval = w .interval; count = w .count }
+
+  -- the record at the first place is the station's router
+  pub first-record : recordAt (wordsOf s) 0 ≡ s .router
+  first-record =
+      ap (λ (x : List ℕ). recordAt x 0) (sym (store-first s (w .refusals) (s .router)))
+      ∙ record-same (wordsOf s) 0 (s .router) (omega arith) words-length in-range
+
+  first-word : getD (wordsOf s) (baseOf 0) 0 ≡ s .router .vrid
+  first-word =
+      ap (λ (x : List ℕ). getD x (baseOf 0) 0) (sym (store-first s (w .refusals) (s .router)))
+      ∙ first-same (wordsOf s) 0 (s .router) (omega arith) words-length
+
+  pub primary-is : primaryOf (wordsOf s) ≡ s .primary
+  unfolding wordsOf primaryOf
+  primary-is = refl
+
+  -- it is found there
+  pub found-first : routerPlace (wordsOf s) (s .router .vrid) ≡ At 0
+  unfolding routerPlace placeOf
+  found-first =
+      rw (ne-eqb (s .router .vrid) 0 (λ z. omega (arith, w .named)))
+      (find-hit (wordsOf s) (s .router .vrid) 0 (omega arith) first-word)
+
+  free-word : (p : ℕ) → p < 254 → getD (wordsOf s) (baseOf (suc p)) 0 ≡ 0
+  unfolding wordsOf
+  free-word p h =
+      let e : baseOf (suc p) ≡ 16 + 16 + 16 * p = omega arith in
+      ap (λ (k : ℕ). getD (wordsOf s) k 0) e
+      ∙ zero-behind (interfaceOf s) (encodeOf (s .router)) 16 16 4064 (16 * p) (interface-length s (w .refusals))
+      (encode-length (s .router)) (omega arith)
+
+  -- and no other is found
+  no-other : (v p : ℕ) → ¬ (v ≡ s .router .vrid) → p < 255 → getD (wordsOf s) (baseOf p) 0 ≡ v → v ≡ 0
+  no-other v zero n h e = absurd (n (sym e ∙ first-word))
+  no-other v (suc p) n h e = sym e ∙ free-word p (omega arith)
+
+  pub nothing-else : (f : Found) (v : ℕ) → ¬ (v ≡ s .router .vrid) → routerPlace (wordsOf s) v ≡ f → f ≡ Nothing
+  nothing-else Nothing v n e = refl
+  nothing-else (At p) v n e =
+      let there = sought-word (wordsOf s) v p e in
+      absurd (there .2 (no-other v p n (there .0) (there .1)))
+
+  -- its address list
+  pub few : s .router .count % 17 ≡ s .router .count
+  few = mod-eq-of-lt (w .count)
+
+  pub first-list : listAt (listsOf s) 0 (s .router .count) ≡ listOf s
+  unfolding listAt listsOf listOf
+  first-list =
+      let n = s .router .count in
+      let most : 4 * n ≤ length (s .addresses) = omega (arith, w .count, w .addresses) in
+      take-append-le (4 * n) (s .addresses) (replicate 16256 0) most
+      ∙ ap (λ (k : ℕ). take (4 * k) (s .addresses)) (sym few)
+
+  -- counting a refusal of 1 to 9 is counting it in the station
+  pub count-first : (number : ℕ) → 1 ≤ number → number ≤ 9
+      → countRefusal (wordsOf s) number ≡ wordsOf (countedBy s number)
+  unfolding wordsOf countRefusal countedBy
+  count-first number least most =
+      let e : number ≡ suc (number - 1) = omega arith in
+      ap (countRefusal (wordsOf s)) e
+      ∙ count-front (s .primary) (s .refusals) (replicate 6 0) (encodeOf (s .router) ++ replicate 4064 0) (number - 1)
+      (omega (arith, w .refusals))

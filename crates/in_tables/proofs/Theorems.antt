@@ -1,0 +1,133 @@
+-- The theorems that specs/Theorems.antt states.
+-- Assumes nothing.
+use mathlib.Core.Path.{_≡_, refl, sym, ap, _∙_}
+use mathlib.Core.List.{List}
+use mathlib.Core.Bool.{Bool, true, false, cond}
+use Prim.Native.Nat.{ℕ, _+_, _*_}
+use native.Mathlib.Omega.{arith}
+use lib.Dec.{eqb, ltb}
+use lib.ListN.{length, take}
+use borrow.Author.Tests.{ne-eqb, eqb-true, eqb-false}
+use Rattle.judging.specs.declared.judging.Fields.{Fields}
+use Rattle.judging.specs.declared.judging.Judged.{Judged}
+use Rattle.judging.specs.declared.judging.Judged.the-variants.{Accepted, Refused}
+use Rattle.judging.specs.Judging.{judgedOf}
+use Rattle.judging.proofs.Accepted.{refused-most}
+use Rattle.router.specs.declared.step.Event.the-variants.{Packet}
+use Rattle.router.specs.declared.step.Outcome.{Outcome}
+use Rattle.router.specs.Step.{stepOf}
+use Rattle.router.specs.Clock.{tickedOf}
+use Rattle.router.specs.Accept.{acceptedOf, refusedOf}
+use Rattle.router.proofs.Kept.{step-keeps, ticked-keeps}
+use Rattle.events.specs.Lists.{listAt}
+use Rattle.events.specs.Result.{Result as TableResult, routerPlace, actedOf}
+use Rattle.events.specs.Events.{happenedOf, clockedOf}
+use Rattle.packets.specs.Packets.{refusalAt, acceptedAt, heardAt, soughtAt, judgedAt, heardOf}
+use Rattle.station.specs.declared.station.Station.{Station}
+use Rattle.station.specs.Station.{Result, refuses, listOf, packetOf, withRouter, withFrame}
+use Rattle.station.specs.Acting.{writtenBy, neededBy, keptBy, actedBy}
+use Rattle.steps.specs.Hearing.{countedBy, refusalBy, acceptedOutcome, acceptedBy, judgedBy, heardBy}
+use Rattle.steps.specs.Steps.{happenedTo, clockedBy, deliveredTo}
+use Rattle.in_tables.specs.Tables.{wordsOf, listsOf, inTable, WellFormed}
+use Rattle.in_tables.specs.Theorems.{OneStep, EventInTable, ClockInTable, PacketInTable, DeliveryInTable}
+use Rattle.station.proofs.Arrays.{list-length}
+use Rattle.steps.proofs.Heard.{refused-least}
+use Rattle.in_tables.proofs.Tables.{store-first, first-record, primary-is, found-first, nothing-else}
+use Rattle.in_tables.proofs.Tables.{few, first-list, count-first}
+
+pub one-step : OneStep
+one-step result a b room other x y =
+    let answers = x .answer-is ∙ sym (y .answer-is) in
+    let stations = x .station-is ∙ sym (y .station-is) in
+    (λ i. record { station = stations i; answer = answers i }, x .room-is ∙ sym (y .room-is))
+
+-- whichever of two results is taken, where both are the same in the table
+either-in-table : (t : Bool) (a b : TableResult) (c d : Result) → a ≡ inTable c → b ≡ inTable d
+    → cond t a b ≡ inTable (cond t c d)
+either-in-table true a b c d x y = x
+either-in-table false a b c d x y = y
+
+-- the words of a table say nothing of frames
+kept-test : (t : Bool) (s : Station) (bytes : List ℕ) → wordsOf (cond t s (withFrame s bytes)) ≡ wordsOf s
+unfolding wordsOf
+kept-test true s bytes = refl
+kept-test false s bytes = refl
+
+kept-words : (s : Station) (o : Outcome) → wordsOf (keptBy s o) ≡ wordsOf (withRouter s (o .router))
+kept-words s o =
+    kept-test (eqb (neededBy s o) 0) (withRouter s (o .router)) (take (50 + length (listOf s)) (writtenBy s o))
+
+module _ (s : Station) (w : WellFormed s) where
+  -- an outcome at the first place, and the same for the station
+  acted-in-table : (o : Outcome) (leftover : ℕ) (room : List ℕ) → o .router .count ≡ s .router .count
+      → actedOf (wordsOf s) (listsOf s) 0 o leftover room ≡ inTable (actedBy s o leftover room)
+  unfolding actedOf actedBy
+  acted-in-table o leftover room same =
+      let long : 4 * o .router .count ≡ length (listOf s) = omega (arith, list-length s (w .addresses), few s w) in
+      let list = ap (listAt (listsOf s) 0) same ∙ first-list s w in
+      rw (long, list, store-first s (w .refusals) (o .router), primary-is s w, ← kept-words s o)
+      (either-in-table (ltb (length room) (neededBy s o)) _ _ _ _ refl refl)
+
+  refusal-same : (packet : List ℕ) (f : Fields) → refusalAt (wordsOf s) (listsOf s) 0 packet f ≡ refusalBy s packet f
+  unfolding refusalBy
+  refusal-same packet f = rw (first-record s w, first-list s w)
+
+  accepted-same : (f : Fields) → acceptedAt (wordsOf s) 0 f ≡ acceptedOutcome s f
+  accepted-same f = rw (first-record s w, primary-is s w)
+
+  heard-in-table : (packet : List ℕ) (f : Fields) (room : List ℕ)
+      → heardAt (wordsOf s) (listsOf s) 0 packet f room ≡ inTable (acceptedBy s packet f room)
+  heard-in-table packet f room =
+      let number = refusalBy s packet f in
+      let same = step-keeps (s .primary) (acceptedOf (s .router)) (Packet (f .priority) (f .source)) .count in
+      rw (
+        refusal-same packet f,
+        accepted-same f,
+        first-record s w,
+        store-first s (w .refusals) (refusedOf (s .router) number),
+        acted-in-table (acceptedOutcome s f) 0 room same,
+      )
+      (either-in-table (eqb number 0) _ _ _ _ refl refl)
+
+  sought-in-table : (t : Bool) (packet : List ℕ) (f : Fields) (room : List ℕ) → eqb (f .vrid) (s .router .vrid) ≡ t
+      → soughtAt (routerPlace (wordsOf s) (f .vrid)) (wordsOf s) (listsOf s) packet f room
+      ≡ inTable (cond t (acceptedBy s packet f room) (refuses 9 (countedBy s 9) room))
+  sought-in-table true packet f room e =
+      let place = ap (routerPlace (wordsOf s)) (eqb-true (f .vrid) (s .router .vrid) e) ∙ found-first s w in
+      rw place (heard-in-table packet f room)
+  sought-in-table false packet f room e =
+      let other = eqb-false (f .vrid) (s .router .vrid) e in
+      let place = nothing-else s w (routerPlace (wordsOf s) (f .vrid)) (f .vrid) other refl in
+      rw (place, count-first s w 9 (omega arith) (omega arith))
+
+  judged-in-table : (j : Judged) (packet room : List ℕ) → judgedOf packet ≡ j
+      → judgedAt j (wordsOf s) (listsOf s) packet room ≡ inTable (judgedBy j s packet room)
+  judged-in-table (Refused number) packet room e =
+      let least = refused-least packet number (sym e) in
+      let most = refused-most packet number (sym e) in
+      rw (count-first s w number (omega arith) (omega arith))
+  judged-in-table (Accepted f) packet room e = sought-in-table (eqb (f .vrid) (s .router .vrid)) packet f room refl
+
+pub event-in-table : EventInTable
+unfolding happenedOf happenedTo
+event-in-table s event room w =
+    let same = step-keeps (s .primary) (s .router) event .count in
+    rw (found-first s w, first-record s w, primary-is s w)
+    (acted-in-table s w (stepOf (s .primary) (s .router) event) 0 room same)
+
+pub clock-in-table : ClockInTable
+unfolding clockedOf clockedBy
+clock-in-table s ticks room w =
+    let ticked = tickedOf (s .primary) (s .router) ticks in
+    let same = ticked-keeps (s .primary) (s .router) ticks .count in
+    rw (found-first s w, first-record s w, primary-is s w)
+    (acted-in-table s w (ticked .outcome) (ticked .leftover) room same)
+
+pub packet-in-table : PacketInTable
+unfolding heardOf heardBy
+packet-in-table s packet room w = judged-in-table s w (judgedOf packet) packet room refl
+
+pub delivery-in-table : DeliveryInTable
+unfolding deliveredTo
+delivery-in-table from to room w some =
+    rw (ne-eqb (from .sent) 0 some) (packet-in-table to (packetOf from) room w)

@@ -1,0 +1,3 @@
+// The steps of a station.
+pub mod hearing; // a packet that is handed over
+pub mod steps; // startup, shutdown, clock and delivery

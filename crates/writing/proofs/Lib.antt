@@ -1,0 +1,4 @@
+pub mod Checksums
+pub mod SameBytes
+pub mod Pasting
+pub mod Writes
