@@ -11,7 +11,7 @@ use borrow.Author.Tests.{eq-eqb, ne-eqb, not-false, ltb-false}
 use Rattle.writing.specs.Writing.{addressBytesWrong}
 use Rattle.wire.proofs.Checks.{passed}
 use Rattle.wire.proofs.Tested.{two-passed}
-use Rattle.router.specs.Step.{stateNumber}
+use Rattle.states.specs.Step.{stateNumber}
 use Rattle.places.specs.declared.place.Found.the-variants.{At, Nothing}
 use Rattle.places.specs.Place.{recordAt, setRecord, placeOf}
 use Rattle.events.specs.Lists.{setList}

@@ -7,10 +7,10 @@ use lib.Dec.{eqb}
 use lib.ListN.{length, replicate}
 use Rattle.wire.specs.Check.{Check, firstRefusal}
 use Rattle.writing.specs.Writing.{addressBytesWrong}
-use Rattle.router.specs.declared.record.State.the-variants.{Initialize}
-use Rattle.router.specs.declared.record.Counts.{Counts}
-use Rattle.router.specs.declared.record.Router.{Router}
-use Rattle.router.specs.Step.{stateNumber}
+use Rattle.states.specs.declared.record.State.the-variants.{Initialize}
+use Rattle.states.specs.declared.record.Counts.{Counts}
+use Rattle.states.specs.declared.record.Router.{Router}
+use Rattle.states.specs.Step.{stateNumber}
 use Rattle.places.specs.declared.place.Found.{Found}
 use Rattle.places.specs.declared.place.Found.the-variants.{At, Nothing}
 use Rattle.places.specs.Place.{recordAt, setRecord, placeOf}

@@ -1,8 +1,8 @@
 // The line of an election: a letter per station before and after, and who remains.
 use crate::segment::Segment;
 use crate::segment::used_of;
-use router::record::State;
-use router::step::state_number;
+use states::record::State;
+use states::step::state_number;
 use station::station::Station;
 use text::put_byte;
 use text::put_decimal;

@@ -5,7 +5,7 @@ use mathlib.Core.List.{List}
 use Prim.Native.Nat.{ℕ, _*_, _≤_, _<_}
 use lib.ListN.{length}
 use borrow.Author.Tests.{lt-ltb, le-ltb}
-use Rattle.router.specs.declared.step.Outcome.{Outcome}
+use Rattle.states.specs.declared.step.Outcome.{Outcome}
 use Rattle.writing.specs.Writing.{over}
 use Rattle.output.specs.Output.{bytesOf, needOf}
 use Rattle.places.specs.Place.{primaryOf, setRecord}

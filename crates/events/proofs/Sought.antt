@@ -8,10 +8,10 @@ use native.Mathlib.Omega.{arith}
 use lib.Dec.{eqb}
 use lib.ListN.{getD}
 use borrow.Author.Tests.{eqb-false}
-use Rattle.router.specs.declared.step.Event.{Event}
-use Rattle.router.specs.declared.step.Outcome.{Outcome}
+use Rattle.states.specs.declared.step.Event.{Event}
+use Rattle.states.specs.declared.step.Outcome.{Outcome}
 use Rattle.router.specs.declared.clock.Ticked.{Ticked}
-use Rattle.router.specs.Step.{stepOf}
+use Rattle.states.specs.Step.{stepOf}
 use Rattle.router.specs.Clock.{tickedOf}
 use Rattle.router.proofs.Kept.{step-keeps, ticked-keeps}
 use Rattle.places.specs.declared.place.Found.the-variants.{At, Nothing}

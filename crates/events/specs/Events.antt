@@ -3,8 +3,8 @@ use Prim.Native.Nat.{ℕ}
 use mathlib.Core.List.{List}
 use mathlib.Core.Bool.{cond, _||_}
 use lib.Dec.{eqb, ltb}
-use Rattle.router.specs.declared.step.Event.{Event}
-use Rattle.router.specs.Step.{stepOf}
+use Rattle.states.specs.declared.step.Event.{Event}
+use Rattle.states.specs.Step.{stepOf}
 use Rattle.router.specs.Clock.{tickedOf}
 use Rattle.places.specs.declared.place.Found.{Found}
 use Rattle.places.specs.declared.place.Found.the-variants.{At, Nothing}

@@ -5,7 +5,7 @@ use mathlib.Core.List.{List}
 use mathlib.Core.Bool.{cond}
 use lib.Dec.{eqb, ltb}
 use lib.ListN.{length}
-use Rattle.router.specs.declared.step.Outcome.{Outcome}
+use Rattle.states.specs.declared.step.Outcome.{Outcome}
 use Rattle.writing.specs.Writing.{over}
 use Rattle.output.specs.Output.{bytesOf, needOf}
 use Rattle.places.specs.declared.place.Found.{Found}

@@ -6,7 +6,7 @@ use places::interface::primary;
 use places::place::Found;
 use places::place::find;
 use places::place::store;
-use router::step::Outcome;
+use states::step::Outcome;
 ghost use mathlib.Core.Path.{_≡_};
 ghost use Prim.Native.Nat.{_≤_, _<_};
 ghost use lib.ListN.{length};

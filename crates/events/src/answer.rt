@@ -1,5 +1,5 @@
 // How a call ends.
-use router::record::Router;
+use states::record::Router;
 
 pub enum Answered {
     // done: so many bytes stand at the start of the room, and so many ticks are left over

@@ -4,14 +4,14 @@ use mathlib.Core.Path.{_≡_, refl, sym, ap, _∙_}
 use mathlib.Core.Bool.{Bool, true, false, cond, not, _||_}
 use Prim.Native.Nat.{ℕ}
 use lib.Dec.{eqb, leb, ltb}
-use Rattle.router.specs.declared.record.State.{State}
-use Rattle.router.specs.declared.record.State.the-variants.{Initialize, Backup, Master}
-use Rattle.router.specs.declared.record.Router.{Router}
-use Rattle.router.specs.declared.step.Event.{Event}
-use Rattle.router.specs.declared.step.Event.the-variants.{Startup, Shutdown, Timer, Packet}
-use Rattle.router.specs.declared.step.Outcome.{Outcome}
-use Rattle.router.specs.Step.{becameMaster, stays, waits, hurries, advertises, takesOver, beats, heardByBackup, heardByMaster}
-use Rattle.router.specs.Step.{stepIn, stepOf}
+use Rattle.states.specs.declared.record.State.{State}
+use Rattle.states.specs.declared.record.State.the-variants.{Initialize, Backup, Master}
+use Rattle.states.specs.declared.record.Router.{Router}
+use Rattle.states.specs.declared.step.Event.{Event}
+use Rattle.states.specs.declared.step.Event.the-variants.{Startup, Shutdown, Timer, Packet}
+use Rattle.states.specs.declared.step.Outcome.{Outcome}
+use Rattle.states.specs.Step.{becameMaster, stays, waits, hurries, advertises, takesOver, beats, heardByBackup, heardByMaster}
+use Rattle.states.specs.Step.{stepIn, stepOf}
 use Rattle.router.specs.Clock.{falls, fires, tickedIn, tickedOf}
 use Rattle.histories.specs.Counts.{becomes}
 

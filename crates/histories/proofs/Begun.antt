@@ -6,7 +6,7 @@ use Prim.Native.Nat.{ℕ, zero, suc, _+_, _-_, _*_, _≤_, _<_}
 use native.Mathlib.Nat.{suc-add}
 use native.Mathlib.Omega.{arith}
 use lib.ListN.{length, getD, take, drop, replicate, length-replicate, getD-replicate}
-use Rattle.router.specs.declared.record.Router.{Router}
+use Rattle.states.specs.declared.record.Router.{Router}
 use Rattle.places.specs.Layout.{decodeOf}
 use Rattle.places.specs.Place.{baseOf, recordAt, refusalCount}
 use Rattle.configuring.specs.Configuring.{emptyOf, freed}

@@ -8,7 +8,7 @@ use Prim.Native.Nat.{ℕ, _≤_, _<_}
 use lib.Dec.{eqb}
 use lib.ListN.{length, getD}
 use borrow.Author.Tests.{eqb-true, eqb-false}
-use Rattle.router.specs.declared.record.Router.{Router}
+use Rattle.states.specs.declared.record.Router.{Router}
 use Rattle.router.specs.Timed.{Timed}
 use Rattle.router.proofs.Kept.{Kept}
 use Rattle.places.specs.Place.{baseOf, recordAt, setRecord, countRefusal}

@@ -14,9 +14,9 @@ use Rattle.judging.specs.declared.judging.Judged.the-variants.{Accepted, Refuse
 use Rattle.judging.specs.Judging.{judgedOf}
 use Rattle.judging.proofs.Accepted.{refused-most}
 use Rattle.wire.proofs.Checks.{passed}
-use Rattle.router.specs.declared.step.Event.{Event}
-use Rattle.router.specs.declared.step.Event.the-variants.{Startup, Shutdown, Packet}
-use Rattle.router.specs.declared.step.Outcome.{Outcome}
+use Rattle.states.specs.declared.step.Event.{Event}
+use Rattle.states.specs.declared.step.Event.the-variants.{Startup, Shutdown, Packet}
+use Rattle.states.specs.declared.step.Outcome.{Outcome}
 use Rattle.router.specs.Accept.{refusedOf, acceptedOf}
 use Rattle.router.specs.Timed.{Timed}
 use Rattle.router.proofs.Kept.{Kept, step-keeps, ticked-keeps}

@@ -14,12 +14,12 @@ use Rattle.judging.specs.declared.judging.Judged.{Judged}
 use Rattle.judging.specs.declared.judging.Judged.the-variants.{Accepted, Refused}
 use Rattle.judging.specs.Judging.{judgedOf}
 use Rattle.judging.proofs.Accepted.{refused-most}
-use Rattle.router.specs.declared.record.Counts.{Counts}
-use Rattle.router.specs.declared.record.Router.{Router}
-use Rattle.router.specs.declared.step.Event.{Event}
-use Rattle.router.specs.declared.step.Event.the-variants.{Startup, Shutdown, Packet}
-use Rattle.router.specs.declared.step.Outcome.{Outcome}
-use Rattle.router.specs.Step.{counted, becameMaster}
+use Rattle.states.specs.declared.record.Counts.{Counts}
+use Rattle.states.specs.declared.record.Router.{Router}
+use Rattle.states.specs.declared.step.Event.{Event}
+use Rattle.states.specs.declared.step.Event.the-variants.{Startup, Shutdown, Packet}
+use Rattle.states.specs.declared.step.Outcome.{Outcome}
+use Rattle.states.specs.Step.{counted, becameMaster}
 use Rattle.router.specs.Accept.{refusedCounts, refusedOf, acceptedOf, acceptedCounts}
 use Rattle.router.proofs.Kept.{Kept, step-keeps, ticked-keeps}
 use Rattle.output.specs.Output.{needOf}

@@ -7,9 +7,9 @@ use lib.Dec.{eqb}
 use Rattle.judging.specs.declared.judging.Judged.{Judged}
 use Rattle.judging.specs.declared.judging.Judged.the-variants.{Accepted, Refused}
 use Rattle.judging.specs.Judging.{judgedOf}
-use Rattle.router.specs.declared.record.State.{State}
-use Rattle.router.specs.declared.record.State.the-variants.{Initialize, Backup, Master}
-use Rattle.router.specs.declared.record.Counts.{Counts}
+use Rattle.states.specs.declared.record.State.{State}
+use Rattle.states.specs.declared.record.State.the-variants.{Initialize, Backup, Master}
+use Rattle.states.specs.declared.record.Counts.{Counts}
 use Rattle.places.specs.declared.place.Found.{Found}
 use Rattle.places.specs.declared.place.Found.the-variants.{At, Nothing}
 use Rattle.places.specs.Place.{recordAt, placeOf}

@@ -5,7 +5,7 @@ use mathlib.Core.List.{List, [], _∷_}
 use mathlib.Core.Bool.{Bool, cond}
 use lib.Dec.{eqb}
 use lib.ListN.{getD}
-use Rattle.router.specs.declared.step.Event.the-variants.{Startup, Shutdown}
+use Rattle.states.specs.declared.step.Event.the-variants.{Startup, Shutdown}
 use Rattle.router.specs.Timed.{Timed}
 use Rattle.places.specs.Place.{baseOf, recordAt}
 use Rattle.events.specs.Result.{answerNumber}

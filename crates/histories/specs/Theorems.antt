@@ -7,7 +7,7 @@ use lib.ListN.{length, getD}
 use Rattle.judging.specs.declared.judging.Fields.{Fields}
 use Rattle.judging.specs.declared.judging.Judged.the-variants.{Accepted}
 use Rattle.judging.specs.Judging.{judgedOf}
-use Rattle.router.specs.declared.step.Event.{Event}
+use Rattle.states.specs.declared.step.Event.{Event}
 use Rattle.places.specs.declared.place.Found.the-variants.{At}
 use Rattle.places.specs.Place.{baseOf, recordAt, placeOf}
 use Rattle.events.specs.declared.answer.Answered.{Answered}

@@ -10,7 +10,7 @@ use lib.Dec.{eqb}
 use lib.ListN.{length, getD, drop, replicate, length-append, length-drop}
 use lib.Seq.{take-all, drop-append-le}
 use borrow.Author.Tests.{eqb-true, eqb-false}
-use Rattle.router.specs.declared.record.Router.{Router}
+use Rattle.states.specs.declared.record.Router.{Router}
 use Rattle.places.specs.declared.place.Found.{Found}
 use Rattle.places.specs.declared.place.Found.the-variants.{At, Nothing}
 use Rattle.places.specs.Layout.{encodeOf}

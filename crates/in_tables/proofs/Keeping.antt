@@ -13,8 +13,8 @@ use Rattle.judging.specs.declared.judging.Judged.{Judged}
 use Rattle.judging.specs.declared.judging.Judged.the-variants.{Accepted, Refused}
 use Rattle.writing.specs.Writing.{over}
 use Rattle.judging.specs.Judging.{judgedOf}
-use Rattle.router.specs.declared.step.Outcome.{Outcome}
-use Rattle.router.specs.Step.{stepOf}
+use Rattle.states.specs.declared.step.Outcome.{Outcome}
+use Rattle.states.specs.Step.{stepOf}
 use Rattle.router.specs.Clock.{tickedOf}
 use Rattle.router.specs.Accept.{refusedOf}
 use Rattle.output.proofs.Lengths.{bytes-length}

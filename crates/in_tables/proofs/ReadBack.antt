@@ -11,10 +11,10 @@ use Rattle.writing.specs.Frame.{messageOf, frameOf}
 use Rattle.writing.specs.Writing.{over}
 use Rattle.writing.proofs.Writes.{Writable}
 use Rattle.round_trip.proofs.RoundTrip.{reads-back}
-use Rattle.router.specs.declared.record.Router.{Router}
-use Rattle.router.specs.declared.step.Writes.{Writes}
-use Rattle.router.specs.declared.step.Writes.the-variants.{Nothing, Advertisement, Farewell, Takeover}
-use Rattle.router.specs.declared.step.Outcome.{Outcome}
+use Rattle.states.specs.declared.record.Router.{Router}
+use Rattle.states.specs.declared.step.Writes.{Writes}
+use Rattle.states.specs.declared.step.Writes.the-variants.{Nothing, Advertisement, Farewell, Takeover}
+use Rattle.states.specs.declared.step.Outcome.{Outcome}
 use Rattle.output.specs.Output.{arpsOf, bytesOf, needOf}
 use Rattle.output.proofs.Lengths.{frame-length}
 use Rattle.events.specs.Lists.{theirList}

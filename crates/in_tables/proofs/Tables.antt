@@ -9,8 +9,8 @@ use lib.ListN.{length, getD, set, take, drop, replicate}
 use lib.ListN.{length-append, length-replicate, getD-replicate, List·getD-append}
 use lib.Seq.{paste, take-at, drop-at, take-all, drop-drop, take-append-le, getD-drop, set-append-left}
 use borrow.Author.Tests.{ne-eqb}
-use Rattle.router.specs.declared.record.Router.{Router}
-use Rattle.router.specs.Step.{counted}
+use Rattle.states.specs.declared.record.Router.{Router}
+use Rattle.states.specs.Step.{counted}
 use Rattle.places.specs.declared.place.Found.{Found}
 use Rattle.places.specs.declared.place.Found.the-variants.{At, Nothing}
 use Rattle.places.specs.Layout.{encodeOf}

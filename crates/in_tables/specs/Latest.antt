@@ -3,8 +3,8 @@ use Prim.Native.Nat.{ℕ, _+_}
 use mathlib.Core.Path.{_≡_}
 use lib.ListN.{length, take}
 use Rattle.judging.specs.declared.judging.Fields.{Fields}
-use Rattle.router.specs.declared.step.Writes.{Writes}
-use Rattle.router.specs.declared.step.Writes.the-variants.{Nothing, Advertisement, Farewell, Takeover}
+use Rattle.states.specs.declared.step.Writes.{Writes}
+use Rattle.states.specs.declared.step.Writes.the-variants.{Nothing, Advertisement, Farewell, Takeover}
 use Rattle.events.specs.declared.answer.Answered.the-variants.{Done}
 use Rattle.station.specs.declared.station.Station.{Station}
 use Rattle.station.specs.Station.{Result, listOf}

@@ -9,8 +9,8 @@ use lib.ListN.{replicate}
 use Rattle.sums.specs.Sum.{Bytes}
 use Rattle.judging.specs.declared.judging.Judged.the-variants.{Accepted}
 use Rattle.judging.specs.Judging.{judgedOf}
-use Rattle.router.specs.declared.step.Event.{Event}
-use Rattle.router.specs.declared.step.Outcome.{Outcome}
+use Rattle.states.specs.declared.step.Event.{Event}
+use Rattle.states.specs.declared.step.Outcome.{Outcome}
 use Rattle.events.specs.Lists.{theirList}
 use Rattle.events.specs.Result.{answerNumber}
 use Rattle.configuring.specs.Configuring.{emptyOf, configureRefusal, configuredWords, configuredLists}

@@ -4,9 +4,9 @@ use mathlib.Core.List.{List, [], _∷_, _++_}
 use Rattle.sums.specs.Total.{numberOf}
 use Rattle.writing.specs.Frame.{frameOf}
 use Rattle.writing.specs.Arp.{arpOf}
-use Rattle.router.specs.declared.record.Router.{Router}
-use Rattle.router.specs.declared.step.Writes.{Writes}
-use Rattle.router.specs.declared.step.Writes.the-variants.{Nothing, Advertisement, Farewell, Takeover}
+use Rattle.states.specs.declared.record.Router.{Router}
+use Rattle.states.specs.declared.step.Writes.{Writes}
+use Rattle.states.specs.declared.step.Writes.the-variants.{Nothing, Advertisement, Farewell, Takeover}
 
 -- "ARPs in configured order": a frame for each four bytes, none for fewer
 unfoldable pub arpsOf : ℕ → List ℕ → List ℕ

@@ -1,6 +1,6 @@
 // What an event has a router write into a lent room: an advertisement frame, and ARP frames behind it.
-use router::record::Router;
-use router::step::Writes;
+use states::record::Router;
+use states::step::Writes;
 use sums::number;
 use writing::arp::put_arp;
 use writing::frame::put_advertisement;

@@ -8,8 +8,8 @@ use borrow.Author.Tests.{ne-eqb}
 use Rattle.judging.specs.declared.judging.Fields.{Fields}
 use Rattle.judging.specs.declared.judging.Judged.the-variants.{Accepted, Refused as JudgedRefused}
 use Rattle.judging.specs.Judging.{judgedOf}
-use Rattle.router.specs.declared.step.Event.the-variants.{Packet}
-use Rattle.router.specs.declared.step.Outcome.{Outcome}
+use Rattle.states.specs.declared.step.Event.the-variants.{Packet}
+use Rattle.states.specs.declared.step.Outcome.{Outcome}
 use Rattle.router.specs.Accept.{refusedOf, acceptedOf}
 use Rattle.router.proofs.Kept.{step-keeps}
 use Rattle.places.specs.declared.place.Found.the-variants.{At, Nothing}

@@ -7,9 +7,9 @@ use Rattle.judging.specs.declared.judging.Fields.{Fields}
 use Rattle.judging.specs.declared.judging.Judged.{Judged}
 use Rattle.judging.specs.declared.judging.Judged.the-variants.{Accepted, Refused}
 use Rattle.judging.specs.Judging.{judgedOf}
-use Rattle.router.specs.declared.step.Event.the-variants.{Packet}
-use Rattle.router.specs.declared.step.Outcome.{Outcome}
-use Rattle.router.specs.Step.{stepOf}
+use Rattle.states.specs.declared.step.Event.the-variants.{Packet}
+use Rattle.states.specs.declared.step.Outcome.{Outcome}
+use Rattle.states.specs.Step.{stepOf}
 use Rattle.router.specs.Accept.{routerRefusal, refusedOf, acceptedOf}
 use Rattle.places.specs.declared.place.Found.{Found}
 use Rattle.places.specs.declared.place.Found.the-variants.{At, Nothing}

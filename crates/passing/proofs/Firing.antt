@@ -17,17 +17,17 @@ use lib.Seq.{take-at, take-all, drop-at}
 use borrow.Author.Tests.{lt-ltb, le-ltb, ne-eqb, eqb-true, eqb-false, leb-true, leb-false}
 use Rattle.writing.specs.Writing.{over}
 use Rattle.writing.specs.Frame.{frameOf}
-use Rattle.router.specs.declared.record.State.{State}
-use Rattle.router.specs.declared.record.State.the-variants.{Initialize, Backup, Master}
-use Rattle.router.specs.declared.record.Counts.{Counts}
-use Rattle.router.specs.declared.record.Router.{Router}
-use Rattle.router.specs.declared.step.Writes.{Writes}
-use Rattle.router.specs.declared.step.Writes.the-variants.{Nothing, Advertisement, Farewell, Takeover}
-use Rattle.router.specs.declared.step.Event.the-variants.{Timer}
-use Rattle.router.specs.declared.step.Outcome.{Outcome}
+use Rattle.states.specs.declared.record.State.{State}
+use Rattle.states.specs.declared.record.State.the-variants.{Initialize, Backup, Master}
+use Rattle.states.specs.declared.record.Counts.{Counts}
+use Rattle.states.specs.declared.record.Router.{Router}
+use Rattle.states.specs.declared.step.Writes.{Writes}
+use Rattle.states.specs.declared.step.Writes.the-variants.{Nothing, Advertisement, Farewell, Takeover}
+use Rattle.states.specs.declared.step.Event.the-variants.{Timer}
+use Rattle.states.specs.declared.step.Outcome.{Outcome}
 use Rattle.router.specs.declared.clock.Ticked.{Ticked}
-use Rattle.router.specs.Timers.{advertisementIntervalOf}
-use Rattle.router.specs.Step.{stateNumber, withState, withCounts, becameMaster, stepIn, stepOf}
+use Rattle.states.specs.Timers.{advertisementIntervalOf}
+use Rattle.states.specs.Step.{stateNumber, withState, withCounts, becameMaster, stepIn, stepOf}
 use Rattle.router.specs.Clock.{falls, fires, tickedIn, tickedOf}
 use Rattle.output.specs.Output.{arpsOf, bytesOf, needOf}
 use Rattle.output.proofs.Lengths.{frame-length}

@@ -2,12 +2,12 @@
 use Prim.Native.Nat.{ℕ, _-_, _%_}
 use mathlib.Core.Bool.{Bool, cond, not, _&&_}
 use lib.Dec.{eqb, leb}
-use Rattle.router.specs.declared.record.State.{State}
-use Rattle.router.specs.declared.record.State.the-variants.{Initialize, Backup, Master}
-use Rattle.router.specs.declared.record.Counts.{Counts}
-use Rattle.router.specs.declared.record.Router.{Router}
-use Rattle.router.specs.Timers.{advertisementIntervalOf}
-use Rattle.router.specs.Step.{stateNumber, withState, withCounts, becameMaster}
+use Rattle.states.specs.declared.record.State.{State}
+use Rattle.states.specs.declared.record.State.the-variants.{Initialize, Backup, Master}
+use Rattle.states.specs.declared.record.Counts.{Counts}
+use Rattle.states.specs.declared.record.Router.{Router}
+use Rattle.states.specs.Timers.{advertisementIntervalOf}
+use Rattle.states.specs.Step.{stateNumber, withState, withCounts, becameMaster}
 
 -- whether the timer fires within so many ticks; in Initialize none runs
 unfoldable pub dueIn : Router → ℕ → Bool

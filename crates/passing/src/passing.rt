@@ -1,9 +1,9 @@
 // Time for one station, firing as often as due.
-use router::record::Counts;
-use router::record::Router;
-use router::record::State;
-use router::step::state_number;
-use router::timers::advertisement_interval;
+use states::record::Counts;
+use states::record::Router;
+use states::record::State;
+use states::step::state_number;
+use states::timers::advertisement_interval;
 use station::acting::list_bytes;
 use station::station::Station;
 use writing::frame::put_advertisement;

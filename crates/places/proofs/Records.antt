@@ -10,10 +10,10 @@ use native.Mathlib.Omega.{arith}
 use lib.ListN.{length, take, drop}
 use lib.Seq.{paste, length-paste}
 use lib.Dec.{eqb}
-use Rattle.router.specs.declared.record.State.{State}
-use Rattle.router.specs.declared.record.State.the-variants.{Initialize, Backup, Master}
-use Rattle.router.specs.declared.record.Router.{Router}
-use Rattle.router.specs.Step.{stateNumber}
+use Rattle.states.specs.declared.record.State.{State}
+use Rattle.states.specs.declared.record.State.the-variants.{Initialize, Backup, Master}
+use Rattle.states.specs.declared.record.Router.{Router}
+use Rattle.states.specs.Step.{stateNumber}
 use Rattle.places.specs.Layout.{flagOf, stateOf, decodeOf, encodeOf}
 use Rattle.places.specs.Place.{baseOf, recordAt, setRecord}
 use Rattle.places.proofs.Parts.{part-same, part-other, apart}

@@ -7,8 +7,8 @@ use native.Mathlib.Nat.{add-zero}
 use native.Mathlib.Omega.{arith}
 use lib.ListN.{length, getD, take, drop, length-set}
 use lib.Seq.{getD-take, getD-drop, getD-set-same, getD-set-other, drop-set-lt}
-use Rattle.router.specs.declared.record.Router.{Router}
-use Rattle.router.specs.Step.{counted}
+use Rattle.states.specs.declared.record.Router.{Router}
+use Rattle.states.specs.Step.{counted}
 use Rattle.places.specs.Layout.{decodeOf, encodeOf}
 use Rattle.places.specs.Place.{baseOf, recordAt, setRecord, refusalCount, countRefusal}
 use Rattle.places.proofs.Parts.{part-same, part-before}

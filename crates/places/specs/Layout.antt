@@ -4,11 +4,11 @@ use mathlib.Core.List.{List, [], _∷_}
 use mathlib.Core.Bool.{Bool, cond}
 use lib.ListN.{getD}
 use lib.Dec.{eqb}
-use Rattle.router.specs.declared.record.State.{State}
-use Rattle.router.specs.declared.record.State.the-variants.{Initialize, Backup, Master}
-use Rattle.router.specs.declared.record.Counts.{Counts}
-use Rattle.router.specs.declared.record.Router.{Router}
-use Rattle.router.specs.Step.{stateNumber}
+use Rattle.states.specs.declared.record.State.{State}
+use Rattle.states.specs.declared.record.State.the-variants.{Initialize, Backup, Master}
+use Rattle.states.specs.declared.record.Counts.{Counts}
+use Rattle.states.specs.declared.record.Router.{Router}
+use Rattle.states.specs.Step.{stateNumber}
 
 -- yes is 1; every word but 1 is no
 abbrev pub flagOf : Bool → ℕ

@@ -5,8 +5,8 @@ use mathlib.Core.Bool.{cond}
 use lib.ListN.{getD, set, take, drop}
 use lib.Seq.{paste}
 use lib.Dec.{eqb}
-use Rattle.router.specs.declared.record.Router.{Router}
-use Rattle.router.specs.Step.{counted}
+use Rattle.states.specs.declared.record.Router.{Router}
+use Rattle.states.specs.Step.{counted}
 use Rattle.places.specs.declared.place.Found.{Found}
 use Rattle.places.specs.declared.place.Found.the-variants.{At, Nothing}
 use Rattle.places.specs.Layout.{decodeOf, encodeOf}

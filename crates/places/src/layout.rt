@@ -1,8 +1,8 @@
 // How a router's record lies in 16 words.
-use router::record::Counts;
-use router::record::Router;
-use router::record::State;
-use router::step::state_number;
+use states::record::Counts;
+use states::record::Router;
+use states::record::State;
+use states::step::state_number;
 ghost use mathlib.Core.Path.{_≡_};
 ghost use Prim.Native.Nat.{_%_};
 ghost use lib.ListN.{length};

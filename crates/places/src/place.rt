@@ -1,7 +1,7 @@
 // Reading, writing and finding a place.
 use crate::layout::decode;
 use crate::layout::encode;
-use router::record::Router;
+use states::record::Router;
 ghost use mathlib.Core.Path.{_≡_};
 ghost use Prim.Native.Nat.{_+_, _≤_, _<_};
 ghost use lib.ListN.{length};

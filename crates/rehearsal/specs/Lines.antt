@@ -6,8 +6,8 @@ use mathlib.Core.Bool.{cond}
 use lib.Dec.{ltb}
 use lib.ListN.{length, take}
 use Rattle.writing.specs.Writing.{over}
-use Rattle.router.specs.declared.record.State.{State}
-use Rattle.router.specs.declared.record.State.the-variants.{Initialize, Backup, Master}
+use Rattle.states.specs.declared.record.State.{State}
+use Rattle.states.specs.declared.record.State.the-variants.{Initialize, Backup, Master}
 use Rattle.text.specs.Digits.{decimalOf}
 use Rattle.station.specs.declared.station.Station.{Station}
 use Rattle.rehearsal.specs.declared.segment.Segment.{Segment}

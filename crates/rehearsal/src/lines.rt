@@ -2,7 +2,7 @@
 use crate::kinds::Kind;
 use crate::kinds::kind_number;
 use crate::reading::Reading;
-use router::record::State;
+use states::record::State;
 use station::station::Station;
 use text::put;
 use text::put_byte;

@@ -1,9 +1,9 @@
 // The line of a call: how it ended, its room, and the router and the interface, all as they are after it.
 use events::answer::Answered;
 use events::answer::Told;
-use router::record::Counts;
-use router::record::Router;
-use router::record::State;
+use states::record::Counts;
+use states::record::Router;
+use states::record::State;
 use table::calls::interface_count;
 use table::calls::question;
 use text::put;

@@ -4,15 +4,15 @@ use mathlib.Core.Path.{_≡_, refl}
 use mathlib.Core.Bool.{Bool, true, false, cond, not, _||_}
 use Prim.Native.Nat.{ℕ}
 use lib.Dec.{eqb, leb, ltb}
-use Rattle.router.specs.declared.record.State.{State}
-use Rattle.router.specs.declared.record.State.the-variants.{Initialize, Backup, Master}
-use Rattle.router.specs.declared.record.Router.{Router}
-use Rattle.router.specs.declared.step.Event.{Event}
-use Rattle.router.specs.declared.step.Event.the-variants.{Startup, Shutdown, Timer, Packet}
-use Rattle.router.specs.declared.step.Writes.the-variants.{Nothing, Farewell}
-use Rattle.router.specs.declared.step.Outcome.{Outcome}
-use Rattle.router.specs.Step.{stays, waits, hurries, stops, advertises, takesOver, beats, heardByBackup, heardByMaster}
-use Rattle.router.specs.Step.{stepIn, stepOf}
+use Rattle.states.specs.declared.record.State.{State}
+use Rattle.states.specs.declared.record.State.the-variants.{Initialize, Backup, Master}
+use Rattle.states.specs.declared.record.Router.{Router}
+use Rattle.states.specs.declared.step.Event.{Event}
+use Rattle.states.specs.declared.step.Event.the-variants.{Startup, Shutdown, Timer, Packet}
+use Rattle.states.specs.declared.step.Writes.the-variants.{Nothing, Farewell}
+use Rattle.states.specs.declared.step.Outcome.{Outcome}
+use Rattle.states.specs.Step.{stays, waits, hurries, stops, advertises, takesOver, beats, heardByBackup, heardByMaster}
+use Rattle.states.specs.Step.{stepIn, stepOf}
 use Rattle.router.specs.Clock.{falls, fires, tickedIn, tickedOf}
 
 pub record Kept (r s : Router) : Type 0 where

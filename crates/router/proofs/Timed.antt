@@ -6,14 +6,14 @@ use Prim.Native.Nat.{ℕ, _-_, _≤_, _<_}
 use native.Mathlib.Omega.{arith}
 use lib.Dec.{eqb, leb, ltb}
 use borrow.Author.Tests.{ltb-true}
-use Rattle.router.specs.declared.record.State.{State}
-use Rattle.router.specs.declared.record.State.the-variants.{Initialize, Backup, Master}
-use Rattle.router.specs.declared.record.Router.{Router}
-use Rattle.router.specs.declared.step.Event.{Event}
-use Rattle.router.specs.declared.step.Event.the-variants.{Startup, Shutdown, Timer, Packet}
-use Rattle.router.specs.declared.step.Outcome.{Outcome}
-use Rattle.router.specs.Timers.{skewOf, masterDownOf, advertisementIntervalOf}
-use Rattle.router.specs.Step.{stays, waits, hurries, advertises, takesOver, beats, heardByBackup, heardByMaster, stepIn, stepOf}
+use Rattle.states.specs.declared.record.State.{State}
+use Rattle.states.specs.declared.record.State.the-variants.{Initialize, Backup, Master}
+use Rattle.states.specs.declared.record.Router.{Router}
+use Rattle.states.specs.declared.step.Event.{Event}
+use Rattle.states.specs.declared.step.Event.the-variants.{Startup, Shutdown, Timer, Packet}
+use Rattle.states.specs.declared.step.Outcome.{Outcome}
+use Rattle.states.specs.Timers.{skewOf, masterDownOf, advertisementIntervalOf}
+use Rattle.states.specs.Step.{stays, waits, hurries, advertises, takesOver, beats, heardByBackup, heardByMaster, stepIn, stepOf}
 use Rattle.router.specs.Clock.{falls, fires, tickedIn, tickedOf}
 use Rattle.router.specs.Timed.{TimedIn, Timed}
 

@@ -5,9 +5,9 @@ use mathlib.Core.Bool.{Bool, cond, not, _&&_}
 use lib.Dec.{eqb}
 use Rattle.judging.specs.declared.judging.Fields.{Fields}
 use Rattle.wire.specs.Check.{Check, firstRefusal}
-use Rattle.router.specs.declared.record.Counts.{Counts}
-use Rattle.router.specs.declared.record.Router.{Router}
-use Rattle.router.specs.Step.{counted, withCounts}
+use Rattle.states.specs.declared.record.Counts.{Counts}
+use Rattle.states.specs.declared.record.Router.{Router}
+use Rattle.states.specs.Step.{counted, withCounts}
 
 -- "packet priority not 255, and its address list differs from ours"
 abbrev pub listDiffers : ℕ → Bool → Bool

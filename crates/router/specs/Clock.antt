@@ -2,12 +2,12 @@
 use Prim.Native.Nat.{ℕ, _-_}
 use mathlib.Core.Bool.{cond}
 use lib.Dec.{ltb}
-use Rattle.router.specs.declared.record.State.{State}
-use Rattle.router.specs.declared.record.State.the-variants.{Initialize, Backup, Master}
-use Rattle.router.specs.declared.record.Router.{Router}
-use Rattle.router.specs.declared.step.Event.the-variants.{Timer}
+use Rattle.states.specs.declared.record.State.{State}
+use Rattle.states.specs.declared.record.State.the-variants.{Initialize, Backup, Master}
+use Rattle.states.specs.declared.record.Router.{Router}
+use Rattle.states.specs.declared.step.Event.the-variants.{Timer}
 use Rattle.router.specs.declared.clock.Ticked.{Ticked}
-use Rattle.router.specs.Step.{withState, stays, stepOf}
+use Rattle.states.specs.Step.{withState, stays, stepOf}
 
 -- "if d is below the remaining time, that falls by d and the leftover is 0"
 abbrev pub falls : Router → ℕ → Ticked

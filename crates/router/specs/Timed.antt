@@ -1,10 +1,10 @@
 -- When a timer runs, and how long it can be (01, 'Time').
 use Prim.Native.Nat.{ℕ, _≤_}
 use mathlib.Core.Path.{_≡_}
-use Rattle.router.specs.declared.record.State.{State}
-use Rattle.router.specs.declared.record.State.the-variants.{Initialize, Backup, Master}
-use Rattle.router.specs.declared.record.Router.{Router}
-use Rattle.router.specs.Timers.{masterDownOf, advertisementIntervalOf}
+use Rattle.states.specs.declared.record.State.{State}
+use Rattle.states.specs.declared.record.State.the-variants.{Initialize, Backup, Master}
+use Rattle.states.specs.declared.record.Router.{Router}
+use Rattle.states.specs.Timers.{masterDownOf, advertisementIntervalOf}
 
 -- "Initialize has no timer, Backup the master down timer, Master the advertisement timer, and a running timer is at least 1"
 abbrev pub TimedIn : State → ℕ → ℕ → ℕ → Type 0

@@ -1,7 +1,7 @@
 // What a router says to a packet that passed refusals 1 to 9: refusals 10 to 13, and the counts.
-use crate::record::Counts;
-use crate::record::Router;
 use judging::judging::Fields;
+use states::record::Counts;
+use states::record::Router;
 ghost use mathlib.Core.Path.{_≡_};
 ghost use Rattle.router.specs.Accept.{listDiffers, routerRefusal, countedAt, refusedCounts, refusedOf, acceptedOf};
 

@@ -1,10 +1,10 @@
 // A clock step for one router.
-use crate::record::Router;
-use crate::record::State;
-use crate::step::Event;
-use crate::step::Outcome;
-use crate::step::stay;
-use crate::step::step;
+use states::record::Router;
+use states::record::State;
+use states::step::Event;
+use states::step::Outcome;
+use states::step::stay;
+use states::step::step;
 ghost use mathlib.Core.Path.{_≡_};
 ghost use mathlib.Core.Bool.{cond};
 ghost use lib.Dec.{ltb};

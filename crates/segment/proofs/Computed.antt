@@ -16,12 +16,12 @@ use Rattle.judging.specs.Message.{versionWrong, tooShort, messageSumWrong}
 use Rattle.judging.specs.Judging.{refusalOf, fieldsOf, judgedOf}
 use Rattle.writing.specs.Frame.{messageChecksum, messageOf, headerChecksum, headerOf, packetOf, frameOf}
 use Rattle.writing.specs.Writing.{addressBytesWrong}
-use Rattle.router.specs.Timers.{skewOf, masterDownOf, advertisementIntervalOf}
-use Rattle.router.specs.Step.{stepOf}
+use Rattle.states.specs.Timers.{skewOf, masterDownOf, advertisementIntervalOf}
+use Rattle.states.specs.Step.{stepOf}
 use Rattle.router.specs.Clock.{tickedOf}
 use Rattle.router.specs.Accept.{routerRefusal}
-use Rattle.router.specs.declared.record.State.{State}
-use Rattle.router.specs.declared.record.State.the-variants.{Initialize, Backup, Master}
+use Rattle.states.specs.declared.record.State.{State}
+use Rattle.states.specs.declared.record.State.the-variants.{Initialize, Backup, Master}
 use Rattle.places.specs.Layout.{decodeOf, encodeOf}
 use Rattle.places.specs.Place.{recordAt, setRecord, placeFrom, placeOf, primaryOf}
 use Rattle.events.specs.Lists.{listAt, setList, theirList, listsMatch}

@@ -11,11 +11,11 @@ use lib.ListN.{length, getD, set, drop, length-set}
 use lib.Seq.{getD-set-same, getD-set-other}
 use borrow.Author.Tests.{eqb-true, eqb-false, ne-eqb}
 use Rattle.writing.specs.Frame.{frameOf}
-use Rattle.router.specs.declared.record.Router.{Router}
-use Rattle.router.specs.declared.record.State.{State}
-use Rattle.router.specs.declared.record.State.the-variants.{Master}
-use Rattle.router.specs.declared.step.Event.the-variants.{Packet}
-use Rattle.router.specs.Step.{stepIn}
+use Rattle.states.specs.declared.record.Router.{Router}
+use Rattle.states.specs.declared.record.State.{State}
+use Rattle.states.specs.declared.record.State.the-variants.{Master}
+use Rattle.states.specs.declared.step.Event.the-variants.{Packet}
+use Rattle.states.specs.Step.{stepIn}
 use Rattle.router.specs.Accept.{acceptedOf}
 use Rattle.places.specs.Place.{recordAt}
 use Rattle.places.proofs.Records.{read-in-range}

@@ -16,14 +16,14 @@ use Rattle.judging.specs.Judging.{judgedOf}
 use Rattle.writing.specs.Writing.{addressBytesWrong}
 use Rattle.round_trip.proofs.RoundTrip.{accepted, list-stands}
 use Rattle.writing.proofs.Writes.{Writable, frame-fits}
-use Rattle.router.specs.declared.record.State.{State}
-use Rattle.router.specs.declared.record.State.the-variants.{Initialize, Backup, Master}
-use Rattle.router.specs.declared.record.Router.{Router}
-use Rattle.router.specs.declared.step.Event.the-variants.{Packet}
-use Rattle.router.specs.declared.step.Writes.{Writes}
-use Rattle.router.specs.declared.step.Writes.the-variants.{Nothing}
-use Rattle.router.specs.declared.step.Outcome.{Outcome}
-use Rattle.router.specs.Step.{stays, waits, hurries, advertises, beats, heardByBackup, heardByMaster, stepIn, stepOf}
+use Rattle.states.specs.declared.record.State.{State}
+use Rattle.states.specs.declared.record.State.the-variants.{Initialize, Backup, Master}
+use Rattle.states.specs.declared.record.Router.{Router}
+use Rattle.states.specs.declared.step.Event.the-variants.{Packet}
+use Rattle.states.specs.declared.step.Writes.{Writes}
+use Rattle.states.specs.declared.step.Writes.the-variants.{Nothing}
+use Rattle.states.specs.declared.step.Outcome.{Outcome}
+use Rattle.states.specs.Step.{stays, waits, hurries, advertises, beats, heardByBackup, heardByMaster, stepIn, stepOf}
 use Rattle.router.specs.Accept.{routerRefusal, refusedOf, acceptedOf}
 use Rattle.router.specs.Timed.{Timed}
 use Rattle.router.proofs.Kept.{Kept, step-keeps}

@@ -12,7 +12,7 @@ use lib.ListN.{length}
 use borrow.Author.Tests.{le-ltb, ltb-false, eqb-true, eqb-false}
 use Rattle.sums.proofs.Bytes.{bytes-each}
 use Rattle.writing.specs.Writing.{addressBytesWrong}
-use Rattle.router.specs.declared.record.State.the-variants.{Master}
+use Rattle.states.specs.declared.record.State.the-variants.{Master}
 use Rattle.histories.specs.Histories.{Memory}
 use Rattle.histories.proofs.Held.{same-or-not}
 use Rattle.segment.specs.Segment.{routerOf, primaryAddress, IsMaster, Stands, stationAt, Segment, Outranks, Delivery}

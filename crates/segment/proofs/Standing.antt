@@ -8,7 +8,7 @@ use Prim.Native.Nat.{ℕ, zero, suc, _≤_, _<_}
 use native.Mathlib.Omega.{arith}
 use lib.Dec.{eqb}
 use lib.ListN.{length, getD}
-use Rattle.router.specs.declared.record.Router.{Router}
+use Rattle.states.specs.declared.record.Router.{Router}
 use Rattle.router.specs.Timed.{Timed}
 use Rattle.router.proofs.Kept.{Kept}
 use Rattle.places.specs.declared.place.Found.{Found}

@@ -7,8 +7,8 @@ use Prim.Native.Nat.{ℕ, _<_}
 use native.Mathlib.Omega.{arith}
 use lib.ListN.{length}
 use lib.Seq.{getD-set-other}
-use Rattle.router.specs.declared.record.State.{State}
-use Rattle.router.specs.declared.record.State.the-variants.{Initialize, Backup, Master}
+use Rattle.states.specs.declared.record.State.{State}
+use Rattle.states.specs.declared.record.State.the-variants.{Initialize, Backup, Master}
 use Rattle.histories.specs.Histories.{Memory}
 use Rattle.histories.proofs.Held.{same-or-not}
 use Rattle.segment.specs.Segment.{routerOf, primaryAddress, IsMaster, stationAt, Segment, Outranks}

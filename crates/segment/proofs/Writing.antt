@@ -11,19 +11,19 @@ use lib.Seq.{take-at}
 use borrow.Author.Tests.{le-ltb}
 use Rattle.writing.specs.Frame.{frameOf}
 use Rattle.writing.specs.Writing.{over}
-use Rattle.router.specs.declared.record.Router.{Router}
-use Rattle.router.specs.declared.record.State.{State}
-use Rattle.router.specs.declared.record.State.the-variants.{Initialize, Backup, Master}
-use Rattle.router.specs.declared.step.Event.the-variants.{Timer}
+use Rattle.states.specs.declared.record.Router.{Router}
+use Rattle.states.specs.declared.record.State.{State}
+use Rattle.states.specs.declared.record.State.the-variants.{Initialize, Backup, Master}
+use Rattle.states.specs.declared.step.Event.the-variants.{Timer}
 use Rattle.router.specs.declared.clock.Ticked.{Ticked}
-use Rattle.router.specs.Step.{advertises, stepIn, stepOf}
+use Rattle.states.specs.Step.{advertises, stepIn, stepOf}
 use Rattle.router.specs.Clock.{tickedIn, tickedOf}
 use Rattle.places.specs.Place.{primaryOf, recordAt}
 use Rattle.places.proofs.Records.{read-in-range}
 use Rattle.output.specs.Output.{bytesOf}
 use Rattle.output.proofs.Lengths.{frame-length}
 use Rattle.places.specs.declared.place.Found.the-variants.{At}
-use Rattle.router.specs.declared.step.Writes.the-variants.{Advertisement}
+use Rattle.states.specs.declared.step.Writes.the-variants.{Advertisement}
 use Rattle.events.specs.Lists.{listAt}
 use Rattle.events.specs.Result.{Result, routerPlace, actedOf}
 use Rattle.events.proofs.Sought.{clocked}

@@ -6,8 +6,8 @@ use mathlib.Core.List.{List, [], _∷_, _++_, map}
 use mathlib.Core.Bool.{true, cond}
 use lib.Dec.{eqb, ltb}
 use lib.ListN.{replicate}
-use Rattle.router.specs.declared.record.State.{State}
-use Rattle.router.specs.declared.record.State.the-variants.{Master}
+use Rattle.states.specs.declared.record.State.{State}
+use Rattle.states.specs.declared.record.State.the-variants.{Master}
 use Rattle.histories.specs.Histories.{Call, configure, startup, clock, Memory, after, begun}
 use Rattle.segment.specs.Segment.{routerOf, IsMaster, stationAt, Segment, Delivery, afterAll, FromMasters, EachPair}
 

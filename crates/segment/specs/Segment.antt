@@ -7,9 +7,9 @@ use mathlib.Core.Bool.{true, false}
 use lib.ListN.{length, getD, set, drop}
 use Rattle.sums.specs.Sum.{Bytes}
 use Rattle.writing.specs.Writing.{addressBytesWrong}
-use Rattle.router.specs.declared.record.Router.{Router}
-use Rattle.router.specs.declared.record.State.the-variants.{Master}
-use Rattle.router.specs.declared.step.Writes.the-variants.{Advertisement}
+use Rattle.states.specs.declared.record.Router.{Router}
+use Rattle.states.specs.declared.record.State.the-variants.{Master}
+use Rattle.states.specs.declared.step.Writes.the-variants.{Advertisement}
 use Rattle.output.specs.Output.{bytesOf}
 use Rattle.places.specs.Place.{primaryOf, recordAt}
 use Rattle.events.specs.Lists.{listAt}

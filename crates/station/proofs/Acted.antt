@@ -8,9 +8,9 @@ use lib.ListN.{length, take, drop}
 use lib.Seq.{take-append-le}
 use borrow.Author.Tests.{lt-ltb, le-ltb, eq-eqb, ne-eqb}
 use Rattle.writing.specs.Writing.{over}
-use Rattle.router.specs.declared.step.Writes.{Writes}
-use Rattle.router.specs.declared.step.Writes.the-variants.{Nothing, Advertisement, Farewell, Takeover}
-use Rattle.router.specs.declared.step.Outcome.{Outcome}
+use Rattle.states.specs.declared.step.Writes.{Writes}
+use Rattle.states.specs.declared.step.Writes.the-variants.{Nothing, Advertisement, Farewell, Takeover}
+use Rattle.states.specs.declared.step.Outcome.{Outcome}
 use Rattle.output.specs.Output.{needOf}
 use Rattle.output.proofs.Lengths.{bytes-length}
 use Rattle.events.specs.declared.answer.Answered.the-variants.{Done, Short}

@@ -5,7 +5,7 @@ use mathlib.Core.Bool.{cond}
 use lib.Dec.{eqb, ltb}
 use lib.ListN.{length, take}
 use Rattle.writing.specs.Writing.{over}
-use Rattle.router.specs.declared.step.Outcome.{Outcome}
+use Rattle.states.specs.declared.step.Outcome.{Outcome}
 use Rattle.output.specs.Output.{bytesOf, needOf}
 use Rattle.events.specs.declared.answer.Answered.the-variants.{Done, Short}
 use Rattle.station.specs.declared.station.Station.{Station}

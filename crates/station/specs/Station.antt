@@ -4,7 +4,7 @@ use mathlib.Core.Path.{_≡_}
 use mathlib.Core.List.{List}
 use lib.ListN.{length, take, drop, replicate}
 use Rattle.writing.specs.Writing.{over}
-use Rattle.router.specs.declared.record.Router.{Router}
+use Rattle.states.specs.declared.record.Router.{Router}
 use Rattle.events.specs.declared.answer.Answered.{Answered}
 use Rattle.events.specs.declared.answer.Answered.the-variants.{Refused}
 use Rattle.station.specs.declared.station.Station.{Station}

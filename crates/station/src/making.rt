@@ -4,7 +4,7 @@ use configuring::configuring::new_router;
 use crate::station::Station;
 use crate::station::Stepped;
 use events::answer::Answered;
-use router::record::Router;
+use states::record::Router;
 use writing::addresses::address_bytes_wrong;
 use writing::room::put;
 ghost use mathlib.Core.Path.{_≡_};

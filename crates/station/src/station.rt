@@ -1,6 +1,6 @@
 // What a station is, and what a step on it comes to.
 use events::answer::Answered;
-use router::record::Router;
+use states::record::Router;
 
 pub struct Station {
     pub primary: u32,

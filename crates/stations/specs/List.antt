@@ -5,7 +5,7 @@ use mathlib.Core.List.{List, [], _∷_, _++_, map}
 use mathlib.Core.Bool.{cond, not}
 use lib.Dec.{eqb, ltb}
 use lib.ListN.{length, take, drop, getD, set, replicate}
-use Rattle.router.specs.declared.step.Event.the-variants.{Startup, Shutdown}
+use Rattle.states.specs.declared.step.Event.the-variants.{Startup, Shutdown}
 use Rattle.wire.specs.Check.{Check, firstRefusal}
 use Rattle.configuring.specs.Configuring.{freed}
 use Rattle.events.specs.declared.answer.Answered.{Answered}

@@ -10,7 +10,7 @@ use borrow.Author.Tests.{eq-eqb, ne-eqb, eqb-false}
 use Rattle.judging.specs.declared.judging.Fields.{Fields}
 use Rattle.judging.specs.declared.judging.Judged.the-variants.{Accepted, Refused as JudgedRefused}
 use Rattle.judging.specs.Judging.{refusalOf, fieldsOf, judgedOf}
-use Rattle.router.specs.declared.step.Outcome.{Outcome}
+use Rattle.states.specs.declared.step.Outcome.{Outcome}
 use Rattle.router.specs.Accept.{refusedOf}
 use Rattle.events.specs.declared.answer.Answered.the-variants.{Refused}
 use Rattle.station.specs.declared.station.Station.{Station}

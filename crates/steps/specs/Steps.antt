@@ -3,8 +3,8 @@ use Prim.Native.Nat.{ℕ}
 use mathlib.Core.List.{List}
 use mathlib.Core.Bool.{cond}
 use lib.Dec.{eqb}
-use Rattle.router.specs.declared.step.Event.{Event}
-use Rattle.router.specs.Step.{stepOf}
+use Rattle.states.specs.declared.step.Event.{Event}
+use Rattle.states.specs.Step.{stepOf}
 use Rattle.router.specs.Clock.{tickedOf}
 use Rattle.station.specs.declared.station.Station.{Station}
 use Rattle.station.specs.Station.{Result, refuses, packetOf}

@@ -1,8 +1,8 @@
 // The steps of a station: startup, shutdown, clock and delivery, for any station and any room.
 use crate::hearing::hear;
 use events::answer::Answered;
-use router::step::Event;
-use router::step::step;
+use states::step::Event;
+use states::step::step;
 use station::acting::act;
 use station::station::Station;
 use station::station::Stepped;
@@ -10,7 +10,7 @@ ghost use mathlib.Core.Path.{_≡_};
 ghost use mathlib.Core.Bool.{cond};
 ghost use Prim.Native.Nat.{_≤_};
 ghost use lib.Dec.{ltb};
-ghost use Rattle.router.specs.declared.step.Event.the-variants.{Startup, Shutdown};
+ghost use Rattle.states.specs.declared.step.Event.the-variants.{Startup, Shutdown};
 ghost use Rattle.station.specs.Station.{Leaves};
 ghost use Rattle.steps.specs.Steps.{happenedTo, clockedBy, deliveredTo};
 

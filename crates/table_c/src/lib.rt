@@ -6,7 +6,7 @@ use table::calls::empty;
 use table::calls::packet;
 use table::calls::startup;
 ghost use mathlib.Core.Path.{_≡_};
-ghost use Rattle.router.specs.declared.step.Event.the-variants.{Startup};
+ghost use Rattle.states.specs.declared.step.Event.the-variants.{Startup};
 ghost use Rattle.events.specs.Result.{answerNumber};
 ghost use Rattle.configuring.specs.Configuring.{emptyOf, Configured};
 ghost use Rattle.events.specs.Events.{happenedOf, clockedOf};

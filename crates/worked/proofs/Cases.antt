@@ -3,8 +3,8 @@
 use mathlib.Core.Path.{refl}
 use Rattle.sums.specs.Sum.{plus, sumOf}
 use Rattle.writing.specs.Frame.{messageChecksum, messageOf, headerChecksum, headerOf}
-use Rattle.router.specs.Timers.{skewOf, masterDownOf, advertisementIntervalOf}
-use Rattle.router.specs.Step.{stepOf}
+use Rattle.states.specs.Timers.{skewOf, masterDownOf, advertisementIntervalOf}
+use Rattle.states.specs.Step.{stepOf}
 use Rattle.router.specs.Clock.{tickedOf}
 use Rattle.worked.specs.Cases.{Hold, cases}
 

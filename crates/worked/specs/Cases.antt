@@ -5,14 +5,14 @@ use mathlib.Core.Bool.{Bool, true, false}
 use mathlib.Core.List.{List, [], _∷_, _++_}
 use lib.ListN.{take, drop, replicate}
 use Rattle.writing.specs.Frame.{headerOf, messageOf}
-use Rattle.router.specs.declared.record.State.{State}
-use Rattle.router.specs.declared.record.State.the-variants.{Backup, Master}
-use Rattle.router.specs.declared.record.Router.{Router}
-use Rattle.router.specs.declared.step.Event.the-variants.{Packet}
-use Rattle.router.specs.declared.step.Outcome.{Outcome}
+use Rattle.states.specs.declared.record.State.{State}
+use Rattle.states.specs.declared.record.State.the-variants.{Backup, Master}
+use Rattle.states.specs.declared.record.Router.{Router}
+use Rattle.states.specs.declared.step.Event.the-variants.{Packet}
+use Rattle.states.specs.declared.step.Outcome.{Outcome}
 use Rattle.router.specs.declared.clock.Ticked.{Ticked}
-use Rattle.router.specs.Timers.{masterDownOf}
-use Rattle.router.specs.Step.{stays, stepOf}
+use Rattle.states.specs.Timers.{masterDownOf}
+use Rattle.states.specs.Step.{stays, stepOf}
 use Rattle.router.specs.Clock.{tickedOf}
 
 -- every claim of a list holds

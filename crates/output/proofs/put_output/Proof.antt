@@ -8,8 +8,8 @@ use denote.Ref.{now}
 use lib.ListN.{length}
 use Rattle.writing.specs.Frame.{frameOf}
 use Rattle.writing.specs.Writing.{over}
-use Rattle.router.specs.declared.step.Writes.{Writes}
-use Rattle.router.specs.declared.step.Writes.the-variants.{Takeover}
+use Rattle.states.specs.declared.step.Writes.{Writes}
+use Rattle.states.specs.declared.step.Writes.the-variants.{Takeover}
 use Rattle.output.specs.Output.{arpsOf, bytesOf, needOf}
 use Rattle.output.proofs.Parts.{part-behind}
 use Rattle.output.proofs.Lengths.{frame-length}

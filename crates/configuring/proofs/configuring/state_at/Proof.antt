@@ -2,8 +2,8 @@
 -- Assumes nothing.
 use mathlib.Core.Path.{ap, _∙_}
 use borrow.Author.Needs.{needs}
-use Rattle.router.specs.declared.record.Router.{Router}
-use Rattle.router.specs.Step.{stateNumber}
+use Rattle.states.specs.declared.record.Router.{Router}
+use Rattle.states.specs.Step.{stateNumber}
 use Rattle.configuring.proofs.configuring.state_at.Statement.{statement}
 use Rattle.configuring.proofs.configuring.state_at.Tie as tie
 

@@ -3,7 +3,7 @@
 use mathlib.Core.Path.{ap}
 use borrow.Author.Needs.{needs}
 use denote.Ref.{now}
-use Rattle.router.specs.declared.step.Outcome.{Outcome}
+use Rattle.states.specs.declared.step.Outcome.{Outcome}
 use Rattle.station.specs.Acting.{actedBy}
 use Rattle.steps.specs.Steps.{happenedTo}
 use Rattle.station.proofs.Acted.{leaves-equal}

@@ -1,0 +1,31 @@
+-- `router::step::hear_as_backup` meets its contract: the two conditions in turn.
+-- Assumes nothing.
+use mathlib.Core.Path.{_∙_}
+use borrow.Author.Needs.{needs}
+use borrow.Author.Tests.{le-leb, lt-leb}
+use Rattle.states.proofs.step.hear_as_backup.Statement.{statement}
+use Rattle.states.proofs.step.hear_as_backup.Tie as tie
+
+wait-requires : tie.Need-wait-requires
+wait-requires c κs = search needs
+
+returns : tie.Need-returns
+returns c = c .wait .ensures ∙ simp (c .before .if1 .taken)
+
+wait-requires-2 : tie.Need-wait-requires-2
+wait-requires-2 c κs = search needs
+
+returns-2 : tie.Need-returns-2
+returns-2 c =
+    c .wait2 .ensures ∙ simp (c .before .before .before .if1 .left, le-leb _ _ (c .before .if2 .taken))
+
+stay-requires : tie.Need-stay-requires
+stay-requires c κs = search needs
+
+returns-3 : tie.Need-returns-3
+returns-3 c =
+    c .stay .ensures ∙ simp (c .before .before .before .if1 .left, lt-leb _ _ (c .before .if2 .left))
+
+pub hear-as-backup-spec : {M : Type 1} → statement M
+hear-as-backup-spec =
+    tie.close (tie.spec wait-requires returns wait-requires-2 returns-2 stay-requires returns-3)

@@ -1,0 +1,228 @@
+// The state-by-event table (RFC 3768 section 6.4), as one match.
+use crate::record::Router;
+use crate::record::State;
+use crate::timers::advertisement_interval;
+use crate::timers::master_down;
+use crate::timers::skew;
+ghost use mathlib.Core.Path.{_≡_};
+ghost use Prim.Native.Nat.{_≤_};
+ghost use Rattle.states.specs.Step.{stateNumber, eventNumber, eventPriority, eventSource, becameMaster};
+ghost use Rattle.states.specs.Step.{stays, waits, hurries, stops, advertises, takesOver};
+ghost use Rattle.states.specs.Step.{heardByBackup, heardByMaster, withCounts, enters, stepOf};
+
+pub enum Event {
+    Startup,
+    Shutdown,
+    Timer,
+    // a packet that passed every check: its priority and its source address
+    Packet(u8, u32),
+}
+
+// What an event has the router write.
+pub enum Writes {
+    Nothing,
+    Advertisement,
+    // an advertisement with priority 0
+    Farewell,
+    // an advertisement, and an ARP frame for each address
+    Takeover,
+}
+
+pub struct Outcome {
+    pub router: Router,
+    pub writes: Writes,
+}
+
+pub fn state_number(state: State) -> u32
+    ensures number { λ r. ⌜ r ≡ stateNumber state ⌝ }
+    ensures bound { λ r. ⌜ r ≤ 2 ⌝ }
+{
+    match state {
+        State::Initialize => 0,
+        State::Backup => 1,
+        State::Master => 2,
+    }
+}
+
+fn event_number(event: Event) -> u32
+    ensures number { λ r. ⌜ r ≡ eventNumber event ⌝ }
+    ensures bound { λ r. ⌜ r ≤ 3 ⌝ }
+{
+    match event {
+        Event::Startup => 0,
+        Event::Shutdown => 1,
+        Event::Timer => 2,
+        Event::Packet(_, _) => 3,
+    }
+}
+
+// The priority that an event turns on: a packet's own, else the router's.
+fn event_priority(event: Event, priority: u8) -> u8
+    ensures { λ r. ⌜ r ≡ eventPriority event priority ⌝ }
+{
+    match event {
+        Event::Startup => priority,
+        Event::Shutdown => priority,
+        Event::Timer => priority,
+        Event::Packet(theirs, _) => theirs,
+    }
+}
+
+fn event_source(event: Event) -> u32
+    ensures { λ r. ⌜ r ≡ eventSource event ⌝ }
+{
+    match event {
+        Event::Startup => 0,
+        Event::Shutdown => 0,
+        Event::Timer => 0,
+        Event::Packet(_, source) => source,
+    }
+}
+
+// The router as it is.
+pub fn stay(r: Router) -> Outcome
+    ensures { λ s. ⌜ s ≡ stays r ⌝ }
+{
+    Outcome {
+        router: r,
+        writes: Writes::Nothing,
+    }
+}
+
+// The router with another state and timer, and what it writes.
+fn enter(r: Router, state: State, timer: u32, writes: Writes) -> Outcome
+    ensures { λ s. ⌜ s ≡ enters r state timer writes ⌝ }
+{
+    let counts = r.counts;
+    let router = Router {
+        vrid: r.vrid,
+        priority: r.priority,
+        interval: r.interval,
+        preempt: r.preempt,
+        state: state,
+        timer: timer,
+        count: r.count,
+        counts: counts,
+    };
+    Outcome {
+        router: router,
+        writes: writes,
+    }
+}
+
+// Backup, with the whole master down interval to wait.
+fn wait(r: Router) -> Outcome
+    ensures { λ s. ⌜ s ≡ waits r ⌝ }
+{
+    enter(
+        r,
+        State::Backup,
+        master_down(r.priority, r.interval),
+        Writes::Nothing,
+    )
+}
+
+// Backup, with only the skew to wait: the Master has left.
+fn hurry(r: Router) -> Outcome
+    ensures { λ s. ⌜ s ≡ hurries r ⌝ }
+{
+    enter(r, State::Backup, skew(r.priority), Writes::Nothing)
+}
+
+// Initialize, with no timer.
+fn stop(r: Router, writes: Writes) -> Outcome
+    ensures { λ s. ⌜ s ≡ stops r writes ⌝ }
+{
+    enter(r, State::Initialize, 0, writes)
+}
+
+// Master, advertising.
+fn advertise(r: Router) -> Outcome
+    ensures { λ s. ⌜ s ≡ advertises r ⌝ }
+{
+    enter(
+        r,
+        State::Master,
+        advertisement_interval(r.interval),
+        Writes::Advertisement,
+    )
+}
+
+// The router with one more time that it became Master.
+fn count_master(r: Router) -> Router
+    ensures { λ s. ⌜ s ≡ withCounts r (becameMaster (r .counts)) ⌝ }
+{
+    let mut counts = r.counts;
+    counts.became = std::num::wrapping_add_u32(counts.became, 1);
+    let mut counted = r;
+    counted.counts = counts;
+    counted
+}
+
+// Master, anew: it counts, and writes ARP frames too.
+fn take_over(r: Router) -> Outcome
+    ensures { λ s. ⌜ s ≡ takesOver r ⌝ }
+{
+    let counted = count_master(r);
+    enter(
+        counted,
+        State::Master,
+        advertisement_interval(r.interval),
+        Writes::Takeover,
+    )
+}
+
+// A Backup that hears a priority of 1 or more.
+fn hear_as_backup(r: Router, theirs: u8) -> Outcome
+    ensures { λ s. ⌜ s ≡ heardByBackup r theirs ⌝ }
+{
+    if !r.preempt {
+        return wait(r);
+    }
+    if r.priority <= theirs {
+        return wait(r);
+    }
+    stay(r)
+}
+
+// A Master that hears a priority of 1 or more: addresses are compared as 32-bit numbers.
+fn hear_as_master(r: Router, primary: u32, theirs: u8, source: u32) -> Outcome
+    ensures { λ s. ⌜ s ≡ heardByMaster primary r theirs source ⌝ }
+{
+    if r.priority < theirs {
+        return wait(r);
+    }
+    if theirs != r.priority {
+        return stay(r);
+    }
+    if primary < source {
+        return wait(r);
+    }
+    stay(r)
+}
+
+// One event on one router. A row's number is 0xSEPP: state, event, and the priority that it turns on.
+pub fn step(r: Router, primary: u32, event: Event) -> Outcome
+    ensures { λ s. ⌜ s ≡ stepOf primary r event ⌝ }
+{
+    let state = r.state;
+    let theirs = event_priority(event, r.priority);
+    let source = event_source(event);
+    let row = 4096 * state_number(state) + 256 * event_number(event) + theirs as u32;
+    match row {
+        // Initialize: startup, P = 255; startup, P < 255
+        0x00FF => take_over(r),
+        0x0000..=0x00FE => wait(r),
+        // Backup: shutdown; timer; packet, priority 0; packet, priority 1 or more
+        0x1100..=0x11FF => stop(r, Writes::Nothing),
+        0x1200..=0x12FF => take_over(r),
+        0x1300 => hurry(r),
+        0x1301..=0x13FE | 0x13FF => hear_as_backup(r, theirs),
+        // Master: shutdown; timer; packet, priority 0; packet, priority 1 or more
+        0x2100..=0x21FF => stop(r, Writes::Farewell),
+        0x2200..=0x22FF => advertise(r),
+        0x2300 => advertise(r),
+        0x2301..=0x23FE | 0x23FF => hear_as_master(r, primary, theirs, source),
+        _ => stay(r),
+    }
+}
