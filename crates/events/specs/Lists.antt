@@ -5,7 +5,7 @@ use mathlib.Core.Bool.{Bool, true, false, _&&_}
 use lib.Dec.{eqb}
 use lib.ListN.{length, take, drop}
 use lib.Seq.{paste}
-use Rattle.judging.specs.declared.judging.Fields.{Fields}
+use Rattle.judging.specs.declared.Fields.{Fields}
 
 -- the address bytes of a place that has n addresses
 unfoldable pub listAt : List ℕ → ℕ → ℕ → List ℕ

@@ -9,8 +9,8 @@ use lib.Dec.{eqb, ltb}
 use lib.ListN.{length, take, drop}
 use lib.Seq.{length-take-le, take-append-seam, take-append-le}
 use borrow.Author.Tests.{eqb-true, eqb-false}
-use Rattle.judging.specs.declared.judging.Judged.{Judged}
-use Rattle.judging.specs.declared.judging.Judged.the-variants.{Accepted, Refused}
+use Rattle.judging.specs.declared.Judged.{Judged}
+use Rattle.judging.specs.declared.Judged.the-variants.{Accepted, Refused}
 use Rattle.writing.specs.Writing.{over}
 use Rattle.judging.specs.Judging.{judgedOf}
 use Rattle.states.specs.declared.step.Outcome.{Outcome}

@@ -2,7 +2,7 @@
 use Prim.Native.Nat.{ℕ, _+_}
 use mathlib.Core.Path.{_≡_}
 use lib.ListN.{length, take}
-use Rattle.judging.specs.declared.judging.Fields.{Fields}
+use Rattle.judging.specs.declared.Fields.{Fields}
 use Rattle.states.specs.declared.step.Writes.{Writes}
 use Rattle.states.specs.declared.step.Writes.the-variants.{Nothing, Advertisement, Farewell, Takeover}
 use Rattle.events.specs.declared.answer.Answered.the-variants.{Done}

@@ -7,7 +7,7 @@ use mathlib.Core.List.{List}
 use mathlib.Core.Bool.{Bool}
 use lib.ListN.{replicate}
 use Rattle.sums.specs.Sum.{Bytes}
-use Rattle.judging.specs.declared.judging.Judged.the-variants.{Accepted}
+use Rattle.judging.specs.declared.Judged.the-variants.{Accepted}
 use Rattle.judging.specs.Judging.{judgedOf}
 use Rattle.states.specs.declared.step.Event.{Event}
 use Rattle.states.specs.declared.step.Outcome.{Outcome}

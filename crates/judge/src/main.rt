@@ -1,6 +1,6 @@
 // Judges one packet from standard input, and says by which rule it is refused or what it announces.
-use judging::judging::Fields;
-use judging::judging::Judged;
+use judging::Fields;
+use judging::Judged;
 use libc::STDIN_FILENO;
 use libc::STDOUT_FILENO;
 use text::put;
@@ -126,7 +126,7 @@ fn put_accepted(out: &mut [u8], packet: &[u8], fields: Fields) -> usize
 fn put_judged(out: &mut [u8], packet: &[u8]) -> usize
     ensures { λ r. ⌜ r ≤ length (now (out .exit)) ⌝ }
 {
-    match judging::judging::judge(packet) {
+    match judging::judge(packet) {
         Judged::Accepted(fields) => put_accepted(out, packet, fields),
         Judged::Refused(number) => put_refused(out, number),
     }

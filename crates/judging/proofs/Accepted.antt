@@ -8,8 +8,8 @@ use native.Mathlib.Omega.{arith}
 use lib.Dec.{eqb}
 use lib.ListN.{length, drop, length-drop, length-take}
 use borrow.Author.Tests.{eqb-true}
-use Rattle.judging.specs.declared.judging.Fields.{Fields}
-use Rattle.judging.specs.declared.judging.Judged.the-variants.{Accepted, Refused}
+use Rattle.judging.specs.declared.Fields.{Fields}
+use Rattle.judging.specs.declared.Judged.the-variants.{Accepted, Refused}
 use Rattle.wire.specs.Check.{Check, firstRefusal}
 use Rattle.wire.specs.Reading.{byteAt}
 use Rattle.judging.specs.Packet.{headerLength, totalLength, headerChecks, payload}

@@ -9,8 +9,8 @@ use lib.Dec.{eqb}
 use lib.ListN.{length, take, drop}
 use borrow.Author.Tests.{eqb-true, eq-eqb, ne-eqb}
 use Rattle.wire.specs.Check.{firstRefusal}
-use Rattle.judging.specs.declared.judging.Fields.{Fields}
-use Rattle.judging.specs.declared.judging.Judged.the-variants.{Accepted, Refused}
+use Rattle.judging.specs.declared.Fields.{Fields}
+use Rattle.judging.specs.declared.Judged.the-variants.{Accepted, Refused}
 use Rattle.wire.specs.Reading.{numberAt}
 use Rattle.judging.specs.Packet.{headerLength, totalLength, headerChecks, payload}
 use Rattle.judging.specs.Message.{messageChecks}

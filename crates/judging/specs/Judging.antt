@@ -3,9 +3,9 @@ use Prim.Native.Nat.{ℕ, _+_}
 use mathlib.Core.List.{List, _++_}
 use mathlib.Core.Bool.{cond}
 use lib.Dec.{eqb}
-use Rattle.judging.specs.declared.judging.Fields.{Fields}
-use Rattle.judging.specs.declared.judging.Judged.{Judged}
-use Rattle.judging.specs.declared.judging.Judged.the-variants.{Accepted, Refused}
+use Rattle.judging.specs.declared.Fields.{Fields}
+use Rattle.judging.specs.declared.Judged.{Judged}
+use Rattle.judging.specs.declared.Judged.the-variants.{Accepted, Refused}
 use Rattle.wire.specs.Check.{Check, firstRefusal}
 use Rattle.wire.specs.Reading.{byteAt, numberAt}
 use Rattle.judging.specs.Packet.{headerLength, headerChecks, payload}

@@ -2,8 +2,8 @@
 // where the record is bad: no line is empty. A room has at most 1,023 bytes.
 use crate::lines::put_with_room;
 use events::answer::Answered;
-use judging::judging::Judged;
-use judging::judging::judge;
+use judging::Judged;
+use judging::judge;
 use records::fresh_room;
 use records::read_part;
 use sums::number;

@@ -9,7 +9,7 @@ use lib.Seq.{take-all, take-at}
 use Rattle.sums.specs.Sum.{sumOf, Bytes}
 use Rattle.sums.proofs.Bytes.{bytes-each}
 use Rattle.sums.proofs.Theorems.{checksum-sums}
-use Rattle.judging.specs.declared.judging.Judged.the-variants.{Accepted}
+use Rattle.judging.specs.declared.Judged.the-variants.{Accepted}
 use Rattle.wire.specs.Check.{firstRefusal, Passes}
 use Rattle.wire.specs.Reading.{numberAt}
 use Rattle.judging.specs.Packet.{headerLength, totalLength, causeOf, headerSumWrong, notOurs, headerChecks, payload}

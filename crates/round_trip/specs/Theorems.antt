@@ -6,8 +6,8 @@ use mathlib.Core.Bool.{true}
 use mathlib.Core.Logic.{_↔_}
 use lib.ListN.{length, take, drop}
 use Rattle.sums.specs.Sum.{Bytes}
-use Rattle.judging.specs.declared.judging.Judged.{Judged}
-use Rattle.judging.specs.declared.judging.Judged.the-variants.{Accepted}
+use Rattle.judging.specs.declared.Judged.{Judged}
+use Rattle.judging.specs.declared.Judged.the-variants.{Accepted}
 use Rattle.writing.specs.declared.room.Written.{Written}
 use Rattle.writing.specs.declared.room.Written.the-variants.{Frame}
 use Rattle.wire.specs.Check.{Check, Passes}

@@ -3,7 +3,7 @@ use Prim.Native.Nat.{ℕ}
 use mathlib.Core.List.{List, [], _∷_}
 use mathlib.Core.Bool.{Bool, cond, not, _&&_}
 use lib.Dec.{eqb}
-use Rattle.judging.specs.declared.judging.Fields.{Fields}
+use Rattle.judging.specs.declared.Fields.{Fields}
 use Rattle.wire.specs.Check.{Check, firstRefusal}
 use Rattle.states.specs.declared.record.Counts.{Counts}
 use Rattle.states.specs.declared.record.Router.{Router}

@@ -1,5 +1,5 @@
 // What a router says to a packet that passed refusals 1 to 9: refusals 10 to 13, and the counts.
-use judging::judging::Fields;
+use judging::Fields;
 use states::record::Counts;
 use states::record::Router;
 ghost use mathlib.Core.Path.{_≡_};

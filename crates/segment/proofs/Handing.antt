@@ -9,8 +9,8 @@ use lib.Dec.{eqb, leb, ltb}
 use lib.ListN.{length, take, drop}
 use borrow.Author.Tests.{eq-eqb, ne-eqb, le-ltb}
 use Rattle.sums.specs.Sum.{Bytes}
-use Rattle.judging.specs.declared.judging.Fields.{Fields}
-use Rattle.judging.specs.declared.judging.Judged.the-variants.{Accepted}
+use Rattle.judging.specs.declared.Fields.{Fields}
+use Rattle.judging.specs.declared.Judged.the-variants.{Accepted}
 use Rattle.writing.specs.Frame.{messageOf, packetOf}
 use Rattle.judging.specs.Judging.{judgedOf}
 use Rattle.writing.specs.Writing.{addressBytesWrong}

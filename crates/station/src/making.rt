@@ -1,8 +1,8 @@
 // A station just configured.
-use configuring::configuring::address_count;
-use configuring::configuring::new_router;
 use crate::station::Station;
 use crate::station::Stepped;
+use configuring::address_count;
+use configuring::new_router;
 use events::answer::Answered;
 use states::record::Router;
 use writing::addresses::address_bytes_wrong;

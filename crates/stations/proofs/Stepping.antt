@@ -43,7 +43,7 @@ use Rattle.station.specs.declared.station.Stepped.{Stepped}
 use Rattle.station.specs.Station.{Result, Leaves}
 use Rattle.station.proofs.station.Station.Laws as T′
 use Rattle.station.proofs.station.Stepped.Laws as S′
-use Rattle.steps.proofs.steps.startup as startup
+use Rattle.steps.proofs.startup as startup
 use Rattle.stations.specs.List.{LeavesList, nowhere, steppedAt}
 use Rattle.stations.proofs.Fetching.{of, part, sets, fetching, storing, listTy, kinds, holds, empty, kind, found}
 use Rattle.stations.proofs.Fetching.{reads, Lent, fetches, stores}

@@ -1,8 +1,6 @@
 // The stations of a segment in a lent list: each call fetches a station, takes its step by value and stores it.
 use events::answer::Answered;
-use passing::passing;
 use station::station::Station;
-use steps::steps;
 ghost use mathlib.Core.Path.{_≡_};
 ghost use Prim.Native.Nat.{min};
 ghost use Rattle.stations.specs.List.{LeavesList, startedAt, shutAt, clockedAt, allPassed};

@@ -7,8 +7,8 @@ use Prim.Native.Nat.{ℕ}
 use native.Mathlib.Omega.{arith}
 use lib.Dec.{eqb}
 use borrow.Author.Tests.{eq-eqb, ne-eqb, eqb-false}
-use Rattle.judging.specs.declared.judging.Fields.{Fields}
-use Rattle.judging.specs.declared.judging.Judged.the-variants.{Accepted, Refused as JudgedRefused}
+use Rattle.judging.specs.declared.Fields.{Fields}
+use Rattle.judging.specs.declared.Judged.the-variants.{Accepted, Refused as JudgedRefused}
 use Rattle.judging.specs.Judging.{refusalOf, fieldsOf, judgedOf}
 use Rattle.states.specs.declared.step.Outcome.{Outcome}
 use Rattle.router.specs.Accept.{refusedOf}

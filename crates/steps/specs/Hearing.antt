@@ -4,9 +4,9 @@ use mathlib.Core.List.{List}
 use mathlib.Core.Bool.{cond}
 use lib.Dec.{eqb}
 use lib.ListN.{getD, set}
-use Rattle.judging.specs.declared.judging.Fields.{Fields}
-use Rattle.judging.specs.declared.judging.Judged.{Judged}
-use Rattle.judging.specs.declared.judging.Judged.the-variants.{Accepted, Refused}
+use Rattle.judging.specs.declared.Fields.{Fields}
+use Rattle.judging.specs.declared.Judged.{Judged}
+use Rattle.judging.specs.declared.Judged.the-variants.{Accepted, Refused}
 use Rattle.judging.specs.Judging.{judgedOf}
 use Rattle.states.specs.declared.step.Event.the-variants.{Packet}
 use Rattle.states.specs.declared.step.Outcome.{Outcome}

@@ -1,9 +1,9 @@
 // A packet that is handed over to a station.
 use events::answer::Answered;
 use events::lists::lists_match;
-use judging::judging::Fields;
-use judging::judging::Judged;
-use judging::judging::judge;
+use judging::Fields;
+use judging::Judged;
+use judging::judge;
 use router::accept::count_accepted;
 use router::accept::count_refusal;
 use router::accept::router_refusal;

@@ -1,13 +1,13 @@
 // The calls of the table, for any memory and any argument.
-use configuring::configuring::clear;
-use configuring::configuring::free;
-use configuring::configuring::set_up;
+use configuring::clear;
+use configuring::free;
+use configuring::set_up;
 use events::answer::Answered;
 use events::answer::Told;
 use events::events::happen;
 use events::events::tell;
 use events::events::tick;
-use packets::packets::hear;
+use packets::hear;
 use places::interface::refusal_count;
 use states::step::Event;
 ghost use mathlib.Core.Path.{_≡_};

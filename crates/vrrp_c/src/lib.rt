@@ -1,6 +1,6 @@
 // The three calls for C (include/vrrp.h): thin over `wire`, answering 0 or the refusal's number alone.
-use judging::judging::Judged;
-use judging::judging::judge;
+use judging::Judged;
+use judging::judge;
 use writing::arp::write_arp;
 use writing::frame::write_advertisement;
 use writing::room::Written;

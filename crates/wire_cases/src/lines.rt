@@ -1,6 +1,6 @@
 // The line of each answer.
-use judging::judging::Fields;
-use judging::judging::Judged;
+use judging::Fields;
+use judging::Judged;
 use text::put;
 use text::put_address;
 use text::put_byte;
@@ -35,7 +35,7 @@ fn put_fields(line: &mut [u8], fields: Fields) -> usize
 pub fn put_judged(line: &mut [u8], packet: &[u8]) -> usize
     ensures { λ r. ⌜ r ≤ length (now (line .exit)) ⌝ }
 {
-    match judging::judging::judge(packet) {
+    match judging::judge(packet) {
         Judged::Accepted(fields) => put_fields(line, fields),
         Judged::Refused(number) => {
             let at = put_decimal(line, 0, number as u64);

@@ -1,4 +1,4 @@
--- `table::acting::act` meets its contract: short of room, or done.
+-- `events::acting::act` meets its contract: short of room, or done.
 -- Assumes nothing.
 use mathlib.Core.Path.{ap, _∙_}
 use native.Mathlib.Omega.{arith}

@@ -1,4 +1,4 @@
--- `table::acting::seek` meets its contract: there is no virtual router 0.
+-- `events::acting::seek` meets its contract: there is no virtual router 0.
 -- Assumes nothing.
 use mathlib.Core.Path.{_∙_}
 use borrow.Author.Needs.{needs}

@@ -1,4 +1,4 @@
--- `table::events::outcome_at` meets its contract.
+-- `events::events::outcome_at` meets its contract.
 -- Assumes nothing.
 use mathlib.Core.Path.{_∙_}
 use borrow.Author.Needs.{needs}

@@ -1,4 +1,4 @@
--- `table::events::tell` meets its contract.
+-- `events::events::tell` meets its contract.
 -- Assumes nothing.
 use mathlib.Core.Path.{sym, _∙_}
 use native.Mathlib.Omega.{arith}

@@ -1,4 +1,4 @@
--- `table::events::tick` meets its contract: what was found acts, or 20.
+-- `events::events::tick` meets its contract: what was found acts, or 20.
 -- Assumes nothing.
 use mathlib.Core.Path.{sym, _∙_}
 use native.Mathlib.Omega.{arith}

@@ -1,4 +1,4 @@
--- `table::lists::lists_match` meets its contract. The loop's invariant: what is left decides.
+-- `events::lists::lists_match` meets its contract. The loop's invariant: what is left decides.
 -- Assumes nothing.
 use mathlib.Core.Path.{_≡_, refl, sym, _∙_}
 use Prim.Native.Nat.{_-_, _≤_}

@@ -1,4 +1,4 @@
--- `table::lists::put_list` meets its contract.
+-- `events::lists::put_list` meets its contract.
 -- Assumes nothing.
 use borrow.Author.Needs.{needs}
 use Rattle.events.specs.Lists.{setList}

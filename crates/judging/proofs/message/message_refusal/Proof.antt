@@ -1,4 +1,4 @@
--- `wire::message::message_refusal` meets its contract: the tests before each `return` say which check fails first.
+-- `judging::message::message_refusal` meets its contract: the tests before each `return` say which check fails first.
 -- Assumes nothing.
 use mathlib.Core.Path.{_≡_, sym}
 use native.Mathlib.Omega.{arith}

@@ -1,4 +1,4 @@
--- `wire::packet::cause` meets its contract: the tests before each `return` say which cause is the first.
+-- `judging::packet::cause` meets its contract: the tests before each `return` say which cause is the first.
 -- Assumes nothing.
 use borrow.Author.Needs.{needs}
 use Rattle.wire.proofs.Tested.{tests}

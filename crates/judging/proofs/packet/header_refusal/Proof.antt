@@ -1,4 +1,4 @@
--- `wire::packet::header_refusal` meets its contract: the tests before each `return` say which check fails first.
+-- `judging::packet::header_refusal` meets its contract: the tests before each `return` say which check fails first.
 -- Assumes nothing.
 use native.Mathlib.Omega.{arith}
 use borrow.Author.Needs.{needs}

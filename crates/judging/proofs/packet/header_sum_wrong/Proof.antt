@@ -1,4 +1,4 @@
--- `wire::packet::header_sum_wrong` meets its contract: a readable packet holds its header, whose length is in fours.
+-- `judging::packet::header_sum_wrong` meets its contract: a readable packet holds its header, whose length is in fours.
 -- Assumes nothing.
 use mathlib.Core.Path.{sym}
 use native.Mathlib.Omega.{arith}

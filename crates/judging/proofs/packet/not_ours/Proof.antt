@@ -1,4 +1,4 @@
--- `wire::packet::not_ours` meets its contract: the packet is a fragment or not VRRP, or its destination decides.
+-- `judging::packet::not_ours` meets its contract: the packet is a fragment or not VRRP, or its destination decides.
 -- Assumes nothing.
 use native.Mathlib.Omega.{arith}
 use borrow.Author.Needs.{needs}

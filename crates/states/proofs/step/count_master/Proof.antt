@@ -1,4 +1,4 @@
--- `router::step::count_master` meets its contract.
+-- `states::step::count_master` meets its contract.
 -- Assumes nothing.
 use borrow.Author.Needs.{needs}
 use Rattle.states.proofs.step.count_master.Statement.{statement}

@@ -1,4 +1,4 @@
--- `router::step::hear_as_backup` meets its contract: the two conditions in turn.
+-- `states::step::hear_as_backup` meets its contract: the two conditions in turn.
 -- Assumes nothing.
 use mathlib.Core.Path.{_∙_}
 use borrow.Author.Needs.{needs}

@@ -1,4 +1,4 @@
--- `router::step::hear_as_master` meets its contract: priority, then address.
+-- `states::step::hear_as_master` meets its contract: priority, then address.
 -- Assumes nothing.
 use mathlib.Core.Path.{_∙_}
 use borrow.Author.Needs.{needs}

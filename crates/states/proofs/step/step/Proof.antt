@@ -1,4 +1,4 @@
--- `router::step::step` meets its contract: each arm is a row of the table.
+-- `states::step::step` meets its contract: each arm is a row of the table.
 -- Assumes nothing.
 use mathlib.Core.Path.{ap, ap₂, _∙_}
 use mathlib.Core.Logic.{⊎-elim}

@@ -1,4 +1,4 @@
--- `router::step::take_over` meets its contract: the count, then the state.
+-- `states::step::take_over` meets its contract: the count, then the state.
 -- Assumes nothing.
 use mathlib.Core.Path.{_∙_}
 use borrow.Author.Needs.{needs}

@@ -1,4 +1,4 @@
--- `router::timers::advertisement_interval` meets its contract.
+-- `states::timers::advertisement_interval` meets its contract.
 -- Assumes nothing.
 use native.Mathlib.Omega.{arith}
 use borrow.Author.Needs.{needs}

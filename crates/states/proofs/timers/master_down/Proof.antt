@@ -1,4 +1,4 @@
--- `router::timers::master_down` meets its contract.
+-- `states::timers::master_down` meets its contract.
 -- Assumes nothing.
 use native.Mathlib.Omega.{arith}
 use borrow.Author.Needs.{needs}

@@ -1,4 +1,4 @@
--- `router::timers::skew` meets its contract.
+-- `states::timers::skew` meets its contract.
 -- Assumes nothing.
 use native.Mathlib.Omega.{arith}
 use borrow.Author.Needs.{needs}

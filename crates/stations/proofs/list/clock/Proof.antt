@@ -18,8 +18,8 @@ use denote.Triple.Statement.{Triple}
 use denote.Triple.Clauses.{closing}
 use denote.Triple.Table.{entered, cited}
 use Rattle.steps.specs.Steps.{clockedBy}
-use Rattle.steps.proofs.steps.clock.Symbol.{name as #clock, routine}
-use Rattle.steps.proofs.steps.clock.Met as clock-thm
+use Rattle.steps.proofs.clock.Symbol.{name as #clock, routine}
+use Rattle.steps.proofs.clock.Met as clock-thm
 use Rattle.stations.specs.List.{nowhere, clockedAt}
 use Rattle.stations.proofs.Locals.{allocs-all, vacant, apart, paired, frees-laid}
 use Rattle.stations.proofs.OnList.{listVal, roomVal, Entry, with-two, two, meets-two}
@@ -59,5 +59,5 @@ clock-spec 𝓤 H 𝓜 𝓖 𝓡 =
     entered 𝓤 H (tripleOf 𝓤 H (𝓖 .A) here.signature (here.spec 𝓤 H (𝓖 .A) (𝓜 .mem) (𝓡 .run)))
     (tables 𝓤 H 𝓜 𝓡 code.env .C) (tables 𝓤 H 𝓜 𝓡 code.env .Λ) #here code.function (code.unfolded 𝓤 H 𝓜 𝓡)
     (meets 𝓤 H (𝓖 .A) (givenOf 𝓤 H 𝓜 𝓖) (tablesOf 𝓤 H 𝓜 (tables 𝓤 H 𝓜 𝓡 code.env))
-    (cited 𝓤 H (Beside 𝓤 H (𝓖 .A) u32 clockedBy) 𝓜 𝓡 code.env #clock routine code.calls-station·steps·clock
+    (cited 𝓤 H (Beside 𝓤 H (𝓖 .A) u32 clockedBy) 𝓜 𝓡 code.env #clock routine code.calls-steps·clock
     (clock-thm.met 𝓤 H 𝓜 𝓖 𝓡)))

@@ -32,9 +32,9 @@ use denote.Triple.Clauses.{closing}
 use denote.Triple.Table.{entered, cited}
 use Rattle.events.specs.declared.answer.Answered.the-variants.{Refused}
 use Rattle.steps.specs.Steps.{deliveredTo}
-use Rattle.steps.proofs.steps.deliver.Symbol as deliver-def
-use Rattle.steps.proofs.steps.deliver.Symbol.{name as #deliver}
-use Rattle.steps.proofs.steps.deliver.Met as deliver-thm
+use Rattle.steps.proofs.deliver.Symbol as deliver-def
+use Rattle.steps.proofs.deliver.Symbol.{name as #deliver}
+use Rattle.steps.proofs.deliver.Met as deliver-thm
 use Rattle.stations.specs.List.{nowhere, deliveryRefusal, deliveredAt}
 use Rattle.stations.proofs.Asking.{hears}
 use Rattle.stations.proofs.Fetching.{fetches}
@@ -140,4 +140,4 @@ deliver-spec 𝓤 H 𝓜 𝓖 𝓡 =
     (cited 𝓤 H (Refusal 𝓤 H (𝓖 .A) (givenOf 𝓤 H 𝓜 𝓖) (𝓜 .mem) (𝓡 .run)) 𝓜 𝓡 code.env #refusal refusal-def.routine
     code.calls-stations·list·delivery-refusal (refusal-thm.met 𝓤 H 𝓜 𝓖 𝓡))
     (cited 𝓤 H (Beside 𝓤 H (𝓖 .A) R deliveredTo) 𝓜 𝓡 code.env #deliver deliver-def.routine
-    code.calls-station·steps·deliver (deliver-thm.met 𝓤 H 𝓜 𝓖 𝓡)))
+    code.calls-steps·deliver (deliver-thm.met 𝓤 H 𝓜 𝓖 𝓡)))

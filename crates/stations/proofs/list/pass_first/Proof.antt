@@ -54,10 +54,10 @@ use Rattle.station.specs.declared.station.Station.{Station}
 use Rattle.passing.specs.Passing.{passed}
 use Rattle.station.proofs.station.Station as T
 use Rattle.station.proofs.station.Station.Laws as T′
-use Rattle.passing.proofs.passing.pass as pass
-use Rattle.passing.proofs.passing.pass.Symbol as pass-def
-use Rattle.passing.proofs.passing.pass.Symbol.{name as #pass}
-use Rattle.passing.proofs.passing.pass.Met as pass-thm
+use Rattle.passing.proofs.pass as pass
+use Rattle.passing.proofs.pass.Symbol as pass-def
+use Rattle.passing.proofs.pass.Symbol.{name as #pass}
+use Rattle.passing.proofs.pass.Met as pass-thm
 use Rattle.stations.specs.List.{nowhere, allPassed}
 use Rattle.stations.proofs.Advancing.{none-yet, length-passed, next-passed, at-end}
 use Rattle.stations.proofs.Asking.{hears}
@@ -362,6 +362,6 @@ pass-first-spec 𝓤 H 𝓜 𝓖 𝓡 =
     (tables 𝓤 H 𝓜 𝓡 code.env .C) (tables 𝓤 H 𝓜 𝓡 code.env .Λ) #here code.function (code.unfolded 𝓤 H 𝓜 𝓡)
     (meets 𝓤 H (𝓖 .A) (givenOf 𝓤 H 𝓜 𝓖) (𝓜 .mem) (𝓡 .run) (tablesOf 𝓤 H 𝓜 (tables 𝓤 H 𝓜 𝓡 code.env))
     (cited 𝓤 H (Passed 𝓤 H (𝓖 .A) (𝓜 .mem) (𝓡 .run)) 𝓜 𝓡 code.env #pass pass-def.routine
-    code.calls-station·passing·pass (pass-thm.met 𝓤 H 𝓜 𝓖 𝓡))
+    code.calls-passing·pass (pass-thm.met 𝓤 H 𝓜 𝓖 𝓡))
     (cited 𝓤 H (Least 𝓤 H (𝓖 .A) (𝓜 .mem) (𝓡 .run)) 𝓜 𝓡 code.env #least least-def.routine
     code.calls-stations·list·least (least-thm.met 𝓤 H 𝓜 𝓖 𝓡)))

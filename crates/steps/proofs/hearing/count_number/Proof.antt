@@ -1,4 +1,4 @@
--- `station::hearing::count_number` meets its contract.
+-- `steps::hearing::count_number` meets its contract.
 -- Assumes nothing.
 use borrow.Author.Needs.{needs}
 use Rattle.steps.specs.Hearing.{countedBy}

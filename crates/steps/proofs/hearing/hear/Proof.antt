@@ -1,4 +1,4 @@
--- `station::hearing::hear` meets its contract: judged first.
+-- `steps::hearing::hear` meets its contract: judged first.
 -- Assumes nothing.
 use mathlib.Core.Path.{sym, _∙_}
 use native.Mathlib.Omega.{arith}

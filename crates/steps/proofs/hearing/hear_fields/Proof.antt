@@ -1,4 +1,4 @@
--- `station::hearing::hear_fields` meets its contract: refused and counted, or accepted.
+-- `steps::hearing::hear_fields` meets its contract: refused and counted, or accepted.
 -- Assumes nothing.
 use mathlib.Core.Path.{sym, _∙_}
 use borrow.Author.Needs.{needs}

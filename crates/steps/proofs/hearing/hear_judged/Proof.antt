@@ -1,4 +1,4 @@
--- `station::hearing::hear_judged` meets its contract: 9, or the router hears it.
+-- `steps::hearing::hear_judged` meets its contract: 9, or the router hears it.
 -- Assumes nothing.
 use borrow.Author.Needs.{needs}
 use denote.Ref.{now}

@@ -1,4 +1,4 @@
--- `station::hearing::refusal_of` meets its contract.
+-- `steps::hearing::refusal_of` meets its contract.
 -- Assumes nothing.
 use mathlib.Core.Path.{_≡_, _∙_}
 use Prim.Native.Nat.{_+_, _-_, _*_}

@@ -1,4 +1,4 @@
--- `station::hearing::refuse` meets its contract.
+-- `steps::hearing::refuse` meets its contract.
 -- Assumes nothing.
 use borrow.Author.Needs.{needs}
 use Rattle.steps.proofs.hearing.refuse.Statement.{statement}

@@ -1,4 +1,4 @@
--- `wire::addresses::address_bytes_wrong` meets its contract: the three tests in turn.
+-- `writing::addresses::address_bytes_wrong` meets its contract: the three tests in turn.
 -- Assumes nothing.
 use borrow.Author.Tests.{eq-eqb, ne-eqb}
 use Rattle.writing.specs.Writing.{addressBytesWrong}

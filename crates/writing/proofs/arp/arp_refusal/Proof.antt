@@ -1,4 +1,4 @@
--- `wire::arp::arp_refusal` meets its contract: the tests before each `return` say which check fails first.
+-- `writing::arp::arp_refusal` meets its contract: the tests before each `return` say which check fails first.
 -- Assumes nothing.
 use Rattle.wire.proofs.Tested.{tests}
 use Rattle.writing.proofs.Writes.{arp-refusal-is}

@@ -1,4 +1,4 @@
--- `wire::arp::arp_tail` meets its contract: each byte is the frame's.
+-- `writing::arp::arp_tail` meets its contract: each byte is the frame's.
 -- Assumes nothing.
 use mathlib.Core.Path.{refl}
 use native.Mathlib.Omega.{arith}

@@ -1,4 +1,4 @@
--- `wire::arp::put_arp` meets its contract: head and tail stand one behind the other.
+-- `writing::arp::put_arp` meets its contract: head and tail stand one behind the other.
 -- Assumes nothing.
 use native.Mathlib.Omega.{arith}
 use borrow.Author.Needs.{needs}

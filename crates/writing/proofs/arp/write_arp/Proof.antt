@@ -1,4 +1,4 @@
--- `wire::arp::write_arp` meets its contract: one of the three ends of writing.
+-- `writing::arp::write_arp` meets its contract: one of the three ends of writing.
 -- Assumes nothing.
 use mathlib.Core.Path.{sym, _∙_}
 use borrow.Author.Needs.{needs}

@@ -1,4 +1,4 @@
--- `wire::frame::advertisement_refusal` meets its contract: the tests before each `return` say which check fails first.
+-- `writing::frame::advertisement_refusal` meets its contract: the tests before each `return` say which check fails first.
 -- Assumes nothing.
 use mathlib.Core.Path.{refl, sym, _∙_}
 use borrow.Author.Needs.{needs}

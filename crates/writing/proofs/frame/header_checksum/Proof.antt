@@ -1,4 +1,4 @@
--- `wire::frame::header_checksum` meets its contract: the numbers of the header, summed and folded.
+-- `writing::frame::header_checksum` meets its contract: the numbers of the header, summed and folded.
 -- Assumes nothing.
 use native.Mathlib.Omega.{arith}
 use borrow.Author.Needs.{needs}

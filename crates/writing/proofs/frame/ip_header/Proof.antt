@@ -1,4 +1,4 @@
--- `wire::frame::ip_header` meets its contract: each byte is the header's.
+-- `writing::frame::ip_header` meets its contract: each byte is the header's.
 -- Assumes nothing.
 use mathlib.Core.Path.{refl}
 use native.Mathlib.Omega.{arith}

@@ -1,4 +1,4 @@
--- `wire::frame::message_checksum` meets its contract: the numbers of the message, summed and folded.
+-- `writing::frame::message_checksum` meets its contract: the numbers of the message, summed and folded.
 -- Assumes nothing.
 use native.Mathlib.Omega.{arith}
 use borrow.Author.Needs.{needs}

@@ -1,4 +1,4 @@
--- `wire::frame::message_head` meets its contract: each byte is the message's.
+-- `writing::frame::message_head` meets its contract: each byte is the message's.
 -- Assumes nothing.
 use mathlib.Core.Path.{refl}
 use native.Mathlib.Omega.{arith}

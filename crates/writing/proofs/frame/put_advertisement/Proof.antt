@@ -1,4 +1,4 @@
--- `wire::frame::put_advertisement` meets its contract: the parts of the frame stand one behind another.
+-- `writing::frame::put_advertisement` meets its contract: the parts of the frame stand one behind another.
 -- Assumes nothing.
 use mathlib.Core.Path.{refl}
 use Prim.Native.Nat.{_+_}

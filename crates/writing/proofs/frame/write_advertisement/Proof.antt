@@ -1,4 +1,4 @@
--- `wire::frame::write_advertisement` meets its contract: one of the three ends of writing.
+-- `writing::frame::write_advertisement` meets its contract: one of the three ends of writing.
 -- Assumes nothing.
 use mathlib.Core.Path.{sym, _∙_}
 use native.Mathlib.Omega.{arith}

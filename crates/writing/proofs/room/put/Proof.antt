@@ -1,4 +1,4 @@
--- `wire::room::put` meets its contract. The loop's invariant: the first k bytes are pasted.
+-- `writing::room::put` meets its contract. The loop's invariant: the first k bytes are pasted.
 -- Assumes nothing.
 use mathlib.Core.Path.{_≡_, refl, ap, _∙_}
 use Prim.Native.Nat.{_-_, _≤_}
