@@ -12,7 +12,7 @@ use Rattle.judging.specs.declared.Fields.{Fields}
 use Rattle.judging.specs.declared.Judged.the-variants.{Accepted, Refused}
 use Rattle.wire.specs.Check.{Check, firstRefusal}
 use Rattle.wire.specs.Reading.{byteAt}
-use Rattle.judging.specs.Packet.{headerLength, totalLength, headerChecks, payload}
+use Rattle.headers.specs.Packet.{headerLength, totalLength, headerChecks, payload}
 use Rattle.judging.specs.Message.{messageChecks}
 use Rattle.judging.specs.Judging.{packetChecks, refusalOf, fieldsOf, judgedOf}
 use Rattle.wire.proofs.Checks.{passed, all-pass}

@@ -12,12 +12,12 @@ use Rattle.wire.specs.Check.{firstRefusal}
 use Rattle.judging.specs.declared.Fields.{Fields}
 use Rattle.judging.specs.declared.Judged.the-variants.{Accepted, Refused}
 use Rattle.wire.specs.Reading.{numberAt}
-use Rattle.judging.specs.Packet.{headerLength, totalLength, headerChecks, payload}
+use Rattle.headers.specs.Packet.{headerLength, totalLength, headerChecks, payload}
 use Rattle.judging.specs.Message.{messageChecks}
 use Rattle.judging.specs.Judging.{refusalOf, fieldsIn, fieldsOf, judgedOf, judgedNumber}
 use Rattle.wire.proofs.Tested.{tests}
 use Rattle.wire.proofs.Checks.{passed, refusal-after, refusal-before}
-use Rattle.judging.proofs.Readable.{Readable, readable}
+use Rattle.headers.proofs.Readable.{Readable, readable}
 use Rattle.judging.proofs.Messages.{message-passed}
 
 -- where the header passes, the message decides

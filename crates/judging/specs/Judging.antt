@@ -8,7 +8,7 @@ use Rattle.judging.specs.declared.Judged.{Judged}
 use Rattle.judging.specs.declared.Judged.the-variants.{Accepted, Refused}
 use Rattle.wire.specs.Check.{Check, firstRefusal}
 use Rattle.wire.specs.Reading.{byteAt, numberAt}
-use Rattle.judging.specs.Packet.{headerLength, headerChecks, payload}
+use Rattle.headers.specs.Packet.{headerLength, headerChecks, payload}
 use Rattle.judging.specs.Message.{messageChecks}
 
 -- "Packets, checked in this order": 1 to 8

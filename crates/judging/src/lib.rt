@@ -1,11 +1,10 @@
 // Judging a packet of any length: the first of refusals 1 to 8, or the fields.
-pub mod packet; // the IPv4 header, refusals 1 to 4
 pub mod message; // the VRRP message, refusals 5 to 8
 
 use crate::message::message_refusal;
-use crate::packet::header_length;
-use crate::packet::header_refusal;
-use crate::packet::total_length;
+use headers::header_length;
+use headers::header_refusal;
+use headers::total_length;
 use sums::number;
 ghost use mathlib.Core.Path.{_≡_};
 ghost use Prim.Native.Nat.{_≤_};

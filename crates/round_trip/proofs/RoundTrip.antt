@@ -12,7 +12,7 @@ use Rattle.sums.proofs.Theorems.{checksum-sums}
 use Rattle.judging.specs.declared.Judged.the-variants.{Accepted}
 use Rattle.wire.specs.Check.{firstRefusal, Passes}
 use Rattle.wire.specs.Reading.{numberAt}
-use Rattle.judging.specs.Packet.{headerLength, totalLength, causeOf, headerSumWrong, notOurs, headerChecks, payload}
+use Rattle.headers.specs.Packet.{headerLength, totalLength, causeOf, headerSumWrong, notOurs, headerChecks, payload}
 use Rattle.judging.specs.Message.{messageLength, messageChecks}
 use Rattle.judging.specs.Judging.{refusalOf, fieldsIn, fieldsOf, judgedOf}
 use Rattle.writing.specs.Frame.{messageStart, messageEnd, messageChecksum, messageOf}
@@ -20,7 +20,7 @@ use Rattle.writing.specs.Frame.{headerStart, headerEnd, headerChecksum, headerO
 use Rattle.writing.specs.Writing.{over}
 use Rattle.wire.proofs.Tested.{tests}
 use Rattle.wire.proofs.Checks.{all-pass}
-use Rattle.judging.proofs.Readable.{cause-is}
+use Rattle.headers.proofs.Readable.{cause-is}
 use Rattle.judging.proofs.Messages.{message-tests}
 use Rattle.writing.proofs.Checksums.{number-of-bytes, end-bytes}
 use Rattle.judging.proofs.Passing.{message-decides, accepts}

@@ -11,7 +11,7 @@ use lib.Dec.{eqb, ltb}
 use lib.ListN.{length, replicate}
 use borrow.Author.Tests.{le-ltb, ltb-false, eqb-true, eqb-false}
 use Rattle.sums.specs.Sum.{plus, sumOf}
-use Rattle.judging.specs.Packet.{causeOf, headerSumWrong, notOurs}
+use Rattle.headers.specs.Packet.{causeOf, headerSumWrong, notOurs}
 use Rattle.judging.specs.Message.{versionWrong, tooShort, messageSumWrong}
 use Rattle.judging.specs.Judging.{refusalOf, fieldsOf, judgedOf}
 use Rattle.writing.specs.Frame.{messageChecksum, messageOf, headerChecksum, headerOf, packetOf, frameOf}

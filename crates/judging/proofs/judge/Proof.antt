@@ -3,7 +3,7 @@
 use native.Mathlib.Omega.{arith}
 use borrow.Author.Needs.{needs}
 use denote.Ref.{now}
-use Rattle.judging.proofs.Readable.{Readable}
+use Rattle.headers.proofs.Readable.{Readable}
 use Rattle.judging.proofs.Passing.{Cut, header-refuses, header-passed, cut-refuses, cut-holds, cut-accepts}
 use Rattle.judging.proofs.judge.Statement.{statement}
 use Rattle.judging.proofs.judge.Tie as tie

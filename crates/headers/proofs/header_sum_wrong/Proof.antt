@@ -1,13 +1,13 @@
--- `judging::packet::header_sum_wrong` meets its contract: a readable packet holds its header, whose length is in fours.
+-- `headers::header_sum_wrong` meets its contract: a readable packet holds its header, whose length is in fours.
 -- Assumes nothing.
 use mathlib.Core.Path.{sym}
 use native.Mathlib.Omega.{arith}
 use denote.Ref.{now}
 use lib.Seq.{length-take-le}
-use Rattle.judging.specs.Packet.{headerSumWrong}
-use Rattle.judging.proofs.Readable.{Readable, readable}
-use Rattle.judging.proofs.packet.header_sum_wrong.Statement.{statement}
-use Rattle.judging.proofs.packet.header_sum_wrong.Tie as tie
+use Rattle.headers.specs.Packet.{headerSumWrong}
+use Rattle.headers.proofs.Readable.{Readable, readable}
+use Rattle.headers.proofs.header_sum_wrong.Statement.{statement}
+use Rattle.headers.proofs.header_sum_wrong.Tie as tie
 
 readable-at : (c : tie.Start) → Readable (now (c .args .packet))
 readable-at c = readable _ (c .pre)

@@ -1,14 +1,14 @@
--- `judging::packet::header_refusal` meets its contract: the tests before each `return` say which check fails first.
+-- `headers::header_refusal` meets its contract: the tests before each `return` say which check fails first.
 -- Assumes nothing.
 use native.Mathlib.Omega.{arith}
 use borrow.Author.Needs.{needs}
 use denote.Ref.{now}
-use Rattle.judging.specs.Packet.{headerChecks}
+use Rattle.headers.specs.Packet.{headerChecks}
 use Rattle.wire.proofs.Tested.{tests}
 use Rattle.wire.proofs.Checks.{first}
-use Rattle.judging.proofs.Readable.{Readable, readable}
-use Rattle.judging.proofs.packet.header_refusal.Statement.{statement}
-use Rattle.judging.proofs.packet.header_refusal.Tie as tie
+use Rattle.headers.proofs.Readable.{Readable, readable}
+use Rattle.headers.proofs.header_refusal.Statement.{statement}
+use Rattle.headers.proofs.header_refusal.Tie as tie
 
 -- behind the first test the packet is readable
 readable-at : (c : tie.Else1) → Readable (now (c .before .before .before .args .packet))

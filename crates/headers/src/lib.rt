@@ -8,7 +8,7 @@ ghost use Prim.Native.Nat.{_≤_};
 ghost use mathlib.Core.Bool.{true};
 ghost use lib.ListN.{length};
 ghost use Rattle.wire.specs.Check.{firstRefusal};
-ghost use Rattle.judging.specs.Packet.{headerLength, totalLength, causeOf, headerSumWrong, notOurs, headerChecks};
+ghost use Rattle.headers.specs.Packet.{headerLength, totalLength, causeOf, headerSumWrong, notOurs, headerChecks};
 
 // Where the header ends: four bytes for each of its length field.
 pub fn header_length(packet: &[u8]) -> usize

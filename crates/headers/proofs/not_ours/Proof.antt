@@ -1,10 +1,10 @@
--- `judging::packet::not_ours` meets its contract: the packet is a fragment or not VRRP, or its destination decides.
+-- `headers::not_ours` meets its contract: the packet is a fragment or not VRRP, or its destination decides.
 -- Assumes nothing.
 use native.Mathlib.Omega.{arith}
 use borrow.Author.Needs.{needs}
-use Rattle.judging.proofs.Whole.{not-whole, whole}
-use Rattle.judging.proofs.packet.not_ours.Statement.{statement}
-use Rattle.judging.proofs.packet.not_ours.Tie as tie
+use Rattle.headers.proofs.Whole.{not-whole, whole}
+use Rattle.headers.proofs.not_ours.Statement.{statement}
+use Rattle.headers.proofs.not_ours.Tie as tie
 
 shared-slice-read-word : tie.Need-shared-slice-read-word
 shared-slice-read-word c = search needs

@@ -1,10 +1,10 @@
--- `judging::packet::cause` meets its contract: the tests before each `return` say which cause is the first.
+-- `headers::cause` meets its contract: the tests before each `return` say which cause is the first.
 -- Assumes nothing.
 use borrow.Author.Needs.{needs}
 use Rattle.wire.proofs.Tested.{tests}
-use Rattle.judging.proofs.Readable.{cause-is}
-use Rattle.judging.proofs.packet.cause.Statement.{statement}
-use Rattle.judging.proofs.packet.cause.Tie as tie
+use Rattle.headers.proofs.Readable.{cause-is}
+use Rattle.headers.proofs.cause.Statement.{statement}
+use Rattle.headers.proofs.cause.Tie as tie
 
 returns : tie.Need-returns
 returns c = cause-is _ (omega tests)

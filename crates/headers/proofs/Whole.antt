@@ -6,7 +6,7 @@ use mathlib.Core.Bool.{true, not, _||_}
 use Prim.Native.Nat.{ℕ, _/_, _%_}
 use lib.Dec.{eqb}
 use Rattle.wire.specs.Reading.{byteAt, numberAt}
-use Rattle.judging.specs.Packet.{fragmentField, notOurs}
+use Rattle.headers.specs.Packet.{fragmentField, notOurs}
 use Rattle.wire.proofs.Tested.{equal-passes, tests, three-passed, fails-unless}
 
 -- no fragment, and VRRP: the destination is left to decide

@@ -6,7 +6,7 @@ use Prim.Native.Nat.{ℕ, _/_, _%_, _≤_}
 use native.Mathlib.Omega.{arith}
 use lib.ListN.{length}
 use Rattle.wire.specs.Reading.{byteAt}
-use Rattle.judging.specs.Packet.{headerLength, totalLength, causes, causeOf}
+use Rattle.headers.specs.Packet.{headerLength, totalLength, causes, causeOf}
 use Rattle.wire.proofs.Tested.{tests}
 use Rattle.wire.proofs.Checks.{First, first, passed}
 
