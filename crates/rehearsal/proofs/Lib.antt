@@ -1,6 +1,2 @@
-mod Stored
-mod Taking
-mod Spelled
-mod Stepping
-mod Turning
-pub mod Theorems
+pub mod Stepping
+mod Turned

@@ -13,51 +13,20 @@ use borrow.Rule.Slice.PartMut.{midOf, putMid}
 use Rattle.writing.specs.Writing.{over}
 use Rattle.wire.proofs.Tested.{second-fails}
 use Rattle.output.proofs.Parts.{part-behind}
-use Rattle.station.specs.declared.station.Stepped.{Stepped}
-use Rattle.station.specs.Making.{stationRefusal, madeOf}
-use Rattle.stations.specs.List.{nowhere}
-use Rattle.rehearsal.specs.declared.segment.Segment.{Segment}
-use Rattle.rehearsal.specs.declared.kinds.Kind.{Kind}
-use Rattle.rehearsal.specs.declared.run.Progress.{Progress}
-use Rattle.rehearsal.specs.declared.run.Ran.{Ran}
-use Rattle.rehearsal.specs.Kinds.{kindOf, kindNumber}
-use Rattle.rehearsal.specs.Record.{refusalOf}
-use Rattle.rehearsal.specs.Lines.{Printed, lineOf, refusedLine, printedOf}
-use Rattle.rehearsal.specs.Run.{
-  exhausted,
-  ends,
-  recordStep,
-  stepOf,
-  leftOf,
-  stopsAt,
-  Runs,
-  stops,
-  goes,
-  RunLeaves,
-}
-
--- the stations that are not there
-pub no-station : (made : Stepped) (address : List ℕ) → made ≡ madeOf 0 0 0 false 0 address → made .station ≡ nowhere
-unfolding madeOf stationRefusal
-no-station made address e = ap (λ (m : Stepped). m .station) e
-
--- nothing is printed
-prints-nothing : (room : List ℕ) → Printed [] room 0 room
-prints-nothing room = record { written-is = refl; room-is = refl; fits = omega arith }
+use Rattle.script.specs.declared.kinds.Kind.{Kind}
+use Rattle.script.specs.declared.progress.Progress.{Progress}
+use Rattle.rehearsal.specs.declared.Ran.{Ran}
+use Rattle.script.specs.Kinds.{kindOf}
+use Rattle.script.specs.Record.{refusalOf}
+use Rattle.script.specs.Lines.{Printed, refusedLine}
+use Rattle.script.specs.Progress.{exhausted}
+use Rattle.rehearsal.specs.Run.{ends, recordStep, stepOf, leftOf, stopsAt, Runs, stops, goes, RunLeaves}
+use Rattle.printing.proofs.Printed.{prints-nothing}
 
 pub printed-as : {text other before after : List ℕ} {written : ℕ} → text ≡ other → Printed text before written after
     → Printed other before written after
 printed-as {text} {other} {before} {after} {written} e printed =
     subst (λ (l : List ℕ). Printed l before written after) e printed
-
--- kinds 1 and 2, and 3 to 6
-module _ (kind : Kind) (number : ℕ) (segment : Segment) (n : ℕ) (is-n : n ≡ kindNumber kind) where
-  pub silent-kind : (room : List ℕ) → n < 3 → Printed (printedOf kind number segment) room 0 room
-  silent-kind room h = rw (← is-n, lt-ltb n 3 h) (prints-nothing room)
-
-  pub line-kind : (before after : List ℕ) (written : ℕ) → 3 ≤ n → Printed (lineOf number segment) before written after
-      → Printed (printedOf kind number segment) before written after
-  line-kind before after written h p = rw (← is-n, le-ltb n 3 h) p
 
 -- what is left to do falls
 taken-falls : (t : Bool) (script : List ℕ) (p : Progress) (kind : Kind) (body : List ℕ) → p .done ≡ false

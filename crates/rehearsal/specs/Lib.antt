@@ -1,8 +1,1 @@
-pub mod Kinds
-pub mod Checks
-pub mod Record
-pub mod Lines
-pub mod Script
 pub mod Run
-pub mod Turn
-pub mod Theorems

@@ -3,23 +3,16 @@ use Prim.Native.Nat.{ℕ, suc, _+_, _-_}
 use mathlib.Core.Path.{_≡_}
 use mathlib.Core.List.{List, [], _++_}
 use mathlib.Core.Bool.{Bool, true, false, cond, _||_}
-use lib.Dec.{eqb, ltb, leb}
+use lib.Dec.{eqb, ltb}
 use lib.ListN.{length, drop, getD}
-use Rattle.rehearsal.specs.declared.kinds.Kind.{Kind}
-use Rattle.rehearsal.specs.declared.run.Progress.{Progress}
-use Rattle.rehearsal.specs.declared.run.Ran.{Ran}
-use Rattle.rehearsal.specs.Kinds.{kindOf, bodyLength}
-use Rattle.rehearsal.specs.Record.{afterRecord, refusalOf}
-use Rattle.rehearsal.specs.Lines.{Printed, refusedLine, printedOf}
-use Rattle.rehearsal.specs.Script.{emptySegment, linesFrom}
-
--- before the first record
-abbrev pub started : Progress
-started = record { segment = emptySegment; at = 0; number = 1; done = false }
-
--- no record of the script is left; each that was read has a byte at least, so no run comes to a number above that
-abbrev pub exhausted : List ℕ → Progress → Bool
-exhausted script p = leb (length script) (p .at) || ltb (p .at + 1) (p .number)
+use Rattle.script.specs.declared.kinds.Kind.{Kind}
+use Rattle.script.specs.declared.progress.Progress.{Progress}
+use Rattle.rehearsal.specs.declared.Ran.{Ran}
+use Rattle.script.specs.Kinds.{kindOf}
+use Rattle.script.specs.Record.{afterRecord, refusalOf}
+use Rattle.script.specs.Lines.{Printed, refusedLine, printedOf}
+use Rattle.script.specs.Script.{linesFrom}
+use Rattle.script.specs.Progress.{exhausted, ended, afterTaken}
 
 -- the output that is still due
 unfoldable pub dueOf : List ℕ → Progress → List ℕ
@@ -33,21 +26,8 @@ pub record Step : Type 0 where
   pub progress : Progress
   pub line : List ℕ
 
-abbrev pub ended : Progress → Progress
-ended p = record { segment = p .segment; at = p .at; number = p .number; done = true }
-
 abbrev pub ends : Progress → List ℕ → Step
 ends p line = record { progress = ended p; line = line }
-
--- after a record of this kind that is taken, whose body begins these bytes
-abbrev pub afterTaken : Progress → Kind → List ℕ → Progress
-afterTaken p kind body =
-    record {
-      segment = afterRecord kind (p .segment) body;
-      at = p .at + 1 + bodyLength kind;
-      number = p .number + 1;
-      done = false;
-    }
 
 -- the record of this kind: taken, or refused
 abbrev pub recordStep : Progress → Kind → List ℕ → Step

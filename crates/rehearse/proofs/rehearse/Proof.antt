@@ -4,15 +4,15 @@ use native.Mathlib.Omega.{arith}
 use borrow.Author.Needs.{needs}
 use lib.ListN.{length}
 use Rattle.rehearsal.specs.Run.{leftOf}
-use Rattle.rehearsal.proofs.Theorems.{run-falls, run-within}
+use Rattle.pieces.proofs.Theorems.{run-falls, run-within}
 use Rattle.rehearse.proofs.rehearse.Statement.{statement}
 use Rattle.rehearse.proofs.rehearse.Tie as tie
 use Rattle.rehearse.proofs.rehearse.Reads as reads
 use Rattle.rehearse.proofs.rehearse.Lts as lts
 use Rattle.io.proofs.large_buffer.Reads as large-buffer-reads
 use Rattle.io.proofs.write_all.Reads as write-all-reads
-use Rattle.rehearsal.proofs.run.run.Reads as run-reads
-use Rattle.rehearsal.proofs.run.start.Reads as start-reads
+use Rattle.rehearsal.proofs.run.Reads as run-reads
+use Rattle.rehearsal.proofs.start.Reads as start-reads
 
 undone : (t : Bool) → not t ≡ true → t ≡ false
 undone true e = sym e

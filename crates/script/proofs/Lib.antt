@@ -1,0 +1,2 @@
+mod Stored
+pub mod OfKind

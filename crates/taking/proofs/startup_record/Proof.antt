@@ -1,0 +1,23 @@
+-- `taking::startup_record` meets its contract.
+-- Assumes nothing.
+use mathlib.Core.Path.{ap}
+use native.Mathlib.Omega.{arith}
+use Rattle.stations.specs.declared.lent.Moved.{Moved}
+use borrow.Author.Needs.{needs}
+use Rattle.taking.proofs.startup_record.Statement.{statement}
+use Rattle.taking.proofs.startup_record.Tie as tie
+
+shared-slice-read-at : tie.Need-shared-slice-read-at
+shared-slice-read-at c = search needs
+
+cast-at : tie.Need-cast-at
+cast-at c = omega (arith, c .shared-slice-known2 .given 0)
+
+startup-in-requires : tie.Need-startup-in-requires
+startup-in-requires c κs = search needs
+
+returns : tie.Need-returns
+returns c = ap (λ (m : Moved). m .stations) (c .before .startup-in .ensures)
+
+pub startup-record-spec : {M : Type 1} → statement M
+startup-record-spec = tie.close (tie.spec shared-slice-read-at cast-at startup-in-requires returns)
