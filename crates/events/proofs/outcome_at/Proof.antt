@@ -1,9 +1,9 @@
--- `events::events::outcome_at` meets its contract.
+-- `events::outcome_at` meets its contract.
 -- Assumes nothing.
 use mathlib.Core.Path.{_∙_}
 use borrow.Author.Needs.{needs}
-use Rattle.events.proofs.events.outcome_at.Statement.{statement}
-use Rattle.events.proofs.events.outcome_at.Tie as tie
+use Rattle.events.proofs.outcome_at.Statement.{statement}
+use Rattle.events.proofs.outcome_at.Tie as tie
 
 load-requires : tie.Need-load-requires
 load-requires c κs = search needs

@@ -1,4 +1,4 @@
--- `events::events::tell` meets its contract.
+-- `events::tell` meets its contract.
 -- Assumes nothing.
 use mathlib.Core.Path.{sym, _∙_}
 use native.Mathlib.Omega.{arith}
@@ -6,8 +6,8 @@ use borrow.Author.Needs.{needs}
 use denote.Ref.{now}
 use Rattle.events.specs.Events.{toldOf}
 use Rattle.events.proofs.Sought.{sought-below}
-use Rattle.events.proofs.events.tell.Statement.{statement}
-use Rattle.events.proofs.events.tell.Tie as tie
+use Rattle.events.proofs.tell.Statement.{statement}
+use Rattle.events.proofs.tell.Tie as tie
 
 seek-requires : tie.Need-seek-requires
 seek-requires c κs = search needs
