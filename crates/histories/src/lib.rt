@@ -1,1 +1,1 @@
-// No code: what holds of the table's calls (specs/Theorems.antt), and after every history of them (specs/Histories.antt, specs/Counts.antt).
+// No code: what holds of the calls of the table (specs/Theorems.antt) and after every history of them (specs/Histories.antt).

@@ -1,1 +1,1 @@
-// No code: a station's steps are the table's calls on a table that holds that one router (specs/Tables.antt, specs/Theorems.antt).
+// No code: a step of a station is the table's call on a table that holds that one router (specs/Theorems.antt).

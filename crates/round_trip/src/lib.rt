@@ -1,1 +1,1 @@
-// No code: what is written reads back as what it was written from, stated and proved over judging and writing.
+// No code: what holds of judging and writing, and that what is written reads back (specs/Theorems.antt).

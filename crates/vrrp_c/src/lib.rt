@@ -1,4 +1,4 @@
-// The three calls for C (include/vrrp.h): thin over `wire`, answering 0 or the refusal's number alone.
+// The three calls for C (include/vrrp.h): thin over `judging` and `writing`, answering 0 or the refusal's number alone.
 use judging::Judged;
 use judging::judge;
 use writing::arp::write_arp;
