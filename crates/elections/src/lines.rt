@@ -1,90 +1,78 @@
 // The line of an election: a letter per station before and after, and who remains.
 use crate::segment::Segment;
 use crate::segment::used_of;
+use records::page::Page;
+use records::page::empty;
+use records::page::with_byte;
+use records::page::with_number;
 use states::record::State;
-use states::step::state_number;
 use station::station::Station;
-use text::put_byte;
-use text::put_decimal;
-ghost use Prim.Native.Nat.{_<_, _≤_};
-ghost use lib.ListN.{length};
 
-// The number of the state of a station.
-fn state_of(station: Station) -> u32 {
+// A page with the letters so far.
+struct Shown {
+    pub page: Page,
+    // the number of the one Master: 16 where there is none, 17 where there are several
+    pub lone: usize,
+}
+
+// The letter of a station's state.
+fn letter(station: Station) -> u8 {
     let router = station.router;
     let state = router.state;
-    state_number(state)
-}
-
-// The letter of a state's number.
-fn letter(state: u32) -> u8 {
     match state {
-        0 => b'I',
-        1 => b'B',
-        _ => b'M',
+        State::Initialize => b'I',
+        State::Backup => b'B',
+        State::Master => b'M',
     }
 }
 
-// Puts a letter per station.
-pub fn put_letters(line: &mut [u8], at: usize, segment: Segment) -> usize {
+// The number of the one Master with one station more.
+fn lone_with(lone: usize, at: usize, letter: u8) -> usize {
+    if letter != b'M' {
+        return lone;
+    }
+    if lone == 16 { at } else { 17 }
+}
+
+// The page with the letter of one station more.
+fn with_letter(shown: Shown, at: usize, letter: u8) -> Shown {
+    let page = shown.page;
+    Shown {
+        page: with_byte(page, letter),
+        lone: lone_with(shown.lone, at, letter),
+    }
+}
+
+// The page with the letters of so many stations.
+fn with_letters(page: Page, segment: Segment, count: u8) -> Shown {
     let all = segment.stations;
-    let used = used_of(segment);
-    let mut next = at;
-    let mut k = 0;
-    while k < used {
-        next = put_byte(line, next, letter(state_of(all[k])));
-        k += 1;
-    }
-    next
-}
-
-// The first and the last Master; 16 where there is none.
-struct Leading {
-    pub first: usize,
-    pub last: usize,
-}
-
-// The same with one station more, by the number of its state.
-fn seen(found: Leading, at: usize, state: u32) -> Leading {
-    if state != 2 {
-        return found;
-    }
-    let first = if found.first < 16 { found.first } else { at };
-    Leading { first, last: at }
-}
-
-fn masters(segment: Segment) -> Leading {
-    let all = segment.stations;
-    let used = used_of(segment);
-    let mut found = Leading {
-        first: 16,
-        last: 16,
+    let used = used_of(count);
+    let mut shown = Shown {
+        page: page,
+        lone: 16,
     };
     let mut k = 0;
     while k < used {
-        found = seen(found, k, state_of(all[k]));
+        shown = with_letter(shown, k, letter(all[k]));
         k += 1;
     }
-    found
+    shown
 }
 
-// Puts the number of the one Master, or a dash.
-fn put_lone(line: &mut [u8], at: usize, found: Leading) -> usize {
-    if 16 <= found.first {
-        return put_byte(line, at, b'-');
+// The page with the number of the one Master, or a dash.
+fn with_lone(page: Page, lone: usize) -> Page {
+    if lone < 16 {
+        with_number(page, lone as u64)
+    } else {
+        with_byte(page, b'-')
     }
-    if found.first != found.last {
-        return put_byte(line, at, b'-');
-    }
-    put_decimal(line, at, found.last as u64)
 }
 
-// Puts a letter per station and the number of the one Master, or a dash; and ends the line.
-pub fn put_remaining(line: &mut [u8], at: usize, segment: Segment) -> usize
-    ensures { λ r. ⌜ r ≤ length (now (line .exit)) ⌝ }
-{
-    let letters = put_letters(line, at, segment);
-    let next = put_byte(line, letters, b' ');
-    let end = put_lone(line, next, masters(segment));
-    put_byte(line, end, b'\n')
+// The line: letters of so many stations before and after, and who remains.
+pub fn line_of(before: Segment, after: Segment, count: u8) -> Page {
+    let first = with_letters(empty(), before, count);
+    let letters = first.page;
+    let second = with_letters(with_byte(letters, b' '), after, count);
+    let both = second.page;
+    with_byte(with_lone(with_byte(both, b' '), second.lone), b'\n')
 }

@@ -1,42 +1,15 @@
-// Binary records on standard input, and the line that is written for each.
-use libc::STDIN_FILENO;
-use libc::STDOUT_FILENO;
-ghost use mathlib.Core.Path.{_≡_};
-ghost use lib.ListN.{length};
+// What the test programs share: binary records on standard input, and text on standard output.
+pub mod page; // what is printed
+pub mod reading; // bytes as they come
+pub mod record; // a record by value
 
-// Reads the next part of a record, as long as `part`, and answers whether it all came.
-pub fn read_part(part: &mut [u8]) -> bool {
-    io::read_full(STDIN_FILENO, part) == part.len()
-}
+ghost use Prim.Native.Nat.{_<_};
 
-// The byte that a record begins with.
-pub enum Next {
-    Kind(u8),
-    // nothing is left
-    End,
-}
-
-// Reads the kind of the next record.
-pub fn read_kind() -> Next {
-    let mut kind = [0u8; 1];
-    if !read_part(&mut kind) {
-        return Next::End;
-    }
-    Next::Kind(kind[0])
-}
-
-// The largest room, all 0xA5, so that a byte that was left alone shows.
-pub fn fresh_room() -> [u8; 1023]
-    ensures { λ r. ⌜ 1023 ≡ length r ⌝ }
+// What is left of a budget of records after one more: nothing where that was the last. A loop has to end, and nothing
+// says that the stream does, so it counts down from a number that no run uses up.
+pub fn left(budget: u64, goes_on: bool) -> u64
+    requires { ⌜ 0 < budget ⌝ }
+    ensures { λ r. ⌜ r < budget ⌝ }
 {
-    [0xA5; 1023]
-}
-
-// Writes the line of a record, and answers whether to go on to the next: no line is empty but that of a bad record.
-pub fn write_line(line: &[u8]) -> bool {
-    if line.len() == 0 {
-        io::write_all(STDOUT_FILENO, b"bad record\n");
-        return false;
-    }
-    io::write_all(STDOUT_FILENO, line)
+    if goes_on { budget - 1 } else { 0 }
 }

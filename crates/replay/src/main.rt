@@ -1,68 +1,85 @@
 // Replays a history of calls on a table, one binary record each on standard input, and prints a line for each.
+mod calls; // the call that a record makes
 mod lines; // the line of a call
-mod with_room; // kinds 4 to 7
-mod without_room; // kinds 1 to 3 and 8
+mod shapes; // the records of each kind
 
-use crate::with_room::clock_record;
-use crate::with_room::packet_record;
-use crate::with_room::startup_or_shutdown_record;
-use crate::without_room::configure_record;
-use crate::without_room::new_table_record;
-use crate::without_room::question_record;
-use crate::without_room::remove_record;
-use records::Next;
-use records::read_kind;
-use records::write_line;
-ghost use Prim.Native.Nat.{_≤_};
-ghost use lib.ListN.{length};
+use crate::calls::call;
+use crate::lines::write_call;
+use crate::shapes::is_good;
+use crate::shapes::shape_of;
+use judging::Judged;
+use judging::judge;
+use records::left;
+use records::page::write_bad;
+use records::reading::first;
+use records::record::Record;
+use records::record::fresh_room;
+use records::record::read_kind;
+use records::record::read_record;
+use records::record::room_size;
 
-// Reads the body of a record of this kind, makes its call and puts its line; answers 0 where the record is bad.
-fn put_record(
-    kind: u8,
-    words: &mut [u32; 4096],
-    lists: &mut [u8; 16320],
-    bytes: &mut [u8],
-    line: &mut [u8],
-) -> usize
-    requires { ⌜ 65535 ≤ length (now bytes) ⌝ }
-    ensures { λ r. ⌜ r ≤ length (now (line .exit)) ⌝ }
-{
-    match kind {
-        1 => new_table_record(words, line),
-        2 => configure_record(words, lists, bytes, line),
-        3 => remove_record(words, line),
-        4 | 5 => startup_or_shutdown_record(kind, words, lists, line),
-        6 => clock_record(words, lists, line),
-        7 => packet_record(words, lists, bytes, line),
-        8 => question_record(words, line),
-        _ => 0,
+// The VRID that a packet bears, or 0, which no router has, where it is refused by 1 to 8.
+fn borne(packet: &[u8]) -> u8 {
+    match judge(packet) {
+        Judged::Accepted(fields) => fields.vrid,
+        Judged::Refused(_) => 0,
     }
 }
 
-// Takes one record, and answers whether to go on to the next.
-fn take_record(
-    words: &mut [u32; 4096],
-    lists: &mut [u8; 16320],
-    bytes: &mut [u8],
-    line: &mut [u8],
-) -> bool
-    requires { ⌜ 65535 ≤ length (now bytes) ⌝ }
-{
-    let Next::Kind(kind) = read_kind() else {
-        return false;
-    };
-    let end = put_record(kind, words, lists, bytes, line);
-    write_line(&line[0..end])
+// The VRID of the router that the line shows: a new table has none.
+fn shown(kind: u8, head: [u8; 16], given: &[u8]) -> u8 {
+    match kind {
+        1 => 0,
+        7 => borne(given),
+        _ => head[0],
+    }
 }
 
-// Takes records to the end. A loop has to end, and nothing says that the stream does: it counts down from a number that
-// no run uses up.
-fn run(words: &mut [u32; 4096], lists: &mut [u8; 16320], bytes: &mut [u8], line: &mut [u8])
-    requires { ⌜ 65535 ≤ length (now bytes) ⌝ }
-{
+// Makes the call of a record, and writes its line.
+fn call_and_write(
+    kind: u8,
+    head: [u8; 16],
+    words: &mut [u32; 4096],
+    lists: &mut [u8; 16320],
+    given: &[u8],
+    room: &mut [u8],
+) -> bool {
+    let answered = call(kind, head, words, lists, given, room);
+    write_call(answered, room, words, shown(kind, head, given))
+}
+
+// Replays a record.
+fn replay(record: Record, words: &mut [u32; 4096], lists: &mut [u8; 16320]) -> bool {
+    let head = record.head;
+    let tail = record.tail;
+    let mut room = fresh_room();
+    let size = room_size(record);
+    call_and_write(
+        record.kind,
+        head,
+        words,
+        lists,
+        first(&tail, record.given),
+        &mut room[0..size],
+    )
+}
+
+// Takes one record, and answers whether to go on to the next.
+fn take_record(words: &mut [u32; 4096], lists: &mut [u8; 16320]) -> bool {
+    let kind = read_kind();
+    let record = read_record(kind, shape_of(kind.byte));
+    if is_good(record) {
+        replay(record, words, lists)
+    } else {
+        write_bad(record.any)
+    }
+}
+
+// Takes records to the end.
+fn run(words: &mut [u32; 4096], lists: &mut [u8; 16320]) {
     let mut budget = u64::MAX;
-    while budget > 0 && take_record(words, lists, bytes, line) {
-        budget -= 1;
+    while 0 < budget {
+        budget = left(budget, take_record(words, lists));
     }
 }
 
@@ -71,8 +88,5 @@ fn main() {
     let mut lists = [0u8; 16320];
     // a history that begins without a table has an empty one at 0.0.0.0
     table::calls::empty(&mut words, 0);
-    let mut bytes = io::large_buffer();
-    // a room of 1,023 bytes takes 2,046 digits, and all else of a line at most 222 bytes
-    let mut line = io::buffer();
-    run(&mut words, &mut lists, &mut bytes, &mut line);
+    run(&mut words, &mut lists);
 }

@@ -1,67 +1,59 @@
-// The line of each answer.
+// The line of each answer, up to its end.
 use judging::Fields;
 use judging::Judged;
-use text::put;
-use text::put_address;
-use text::put_byte;
-use text::put_decimal;
-use text::put_hex_or_dash;
-use text::put_next;
+use judging::judge;
+use records::page::Page;
+use records::page::empty;
+use records::page::with_address;
+use records::page::with_byte;
+use records::page::with_hex;
+use records::page::with_number;
+use records::page::with_numbers;
+use records::page::with_text;
 use writing::room::Written;
-ghost use Prim.Native.Nat.{_≤_};
-ghost use lib.ListN.{length};
 
-// Puts who sent an accepted packet, by its source address, VRID and priority.
-fn put_sender(line: &mut [u8], fields: Fields) -> usize {
-    let mut at = put(line, 0, b"0 ");
-    at = put_address(line, at, fields.source);
-    at = put_next(line, at, fields.vrid as u64);
-    put_next(line, at, fields.priority as u64)
+// The VRID, the priority, the address count, the authentication type and the interval of an accepted packet.
+fn numbers(fields: Fields) -> [u32; 5] {
+    [
+        fields.vrid as u32,
+        fields.priority as u32,
+        fields.count as u32,
+        fields.authentication as u32,
+        fields.interval as u32,
+    ]
 }
 
-// Puts the line of an accepted packet.
-fn put_fields(line: &mut [u8], fields: Fields) -> usize
-    ensures { λ r. ⌜ r ≤ length (now (line .exit)) ⌝ }
-{
-    let mut at = put_sender(line, fields);
-    at = put_next(line, at, fields.count as u64);
-    at = put_next(line, at, fields.authentication as u64);
-    at = put_next(line, at, fields.interval as u64);
-    at = put_next(line, at, fields.list as u64);
-    put_byte(line, at, b'\n')
+// What an accepted packet says: its source address, its numbers, and where its address list stands.
+fn accepted(fields: Fields) -> Page {
+    let source = with_address(with_text(empty(), b"0 "), fields.source);
+    let all = with_numbers(source, &numbers(fields));
+    with_number(with_byte(all, b' '), fields.list as u64)
 }
 
-// Puts the line of a judged packet.
-pub fn put_judged(line: &mut [u8], packet: &[u8]) -> usize
-    ensures { λ r. ⌜ r ≤ length (now (line .exit)) ⌝ }
-{
-    match judging::judge(packet) {
-        Judged::Accepted(fields) => put_fields(line, fields),
-        Judged::Refused(number) => {
-            let at = put_decimal(line, 0, number as u64);
-            put_byte(line, at, b'\n')
-        }
+// What a packet is found to be.
+pub fn judged(packet: &[u8]) -> Page {
+    match judge(packet) {
+        Judged::Accepted(fields) => accepted(fields),
+        Judged::Refused(number) => with_number(empty(), number as u64),
     }
 }
 
-// Puts the line of an answer, with the room needed and the room after it.
-fn put_answer(line: &mut [u8], answer: u32, needed: usize, room: &[u8]) -> usize
-    ensures { λ r. ⌜ r ≤ length (now (line .exit)) ⌝ }
-{
-    let mut at = put_decimal(line, 0, answer as u64);
-    at = put_next(line, at, needed as u64);
-    at = put_byte(line, at, b' ');
-    at = put_hex_or_dash(line, at, room);
-    put_byte(line, at, b'\n')
+// The number that a writing is answered by, and the room needed.
+fn answer(number: u32, needed: usize) -> Page {
+    let first = with_number(empty(), number as u64);
+    with_number(with_byte(first, b' '), needed as u64)
 }
 
-// Puts the line of a writing into a room.
-pub fn put_written(line: &mut [u8], written: Written, room: &[u8]) -> usize
-    ensures { λ r. ⌜ r ≤ length (now (line .exit)) ⌝ }
-{
+// How a writing ended.
+fn ended(written: Written) -> Page {
     match written {
-        Written::Frame(_) => put_answer(line, 0, 0, room),
-        Written::Refused(number) => put_answer(line, number, 0, room),
-        Written::Short(needed) => put_answer(line, 22, needed, room),
+        Written::Frame(_) => answer(0, 0),
+        Written::Refused(number) => answer(number, 0),
+        Written::Short(needed) => answer(22, needed),
     }
+}
+
+// How a writing ended, and its room.
+pub fn written_in(room: &[u8], written: Written) -> Page {
+    with_hex(with_byte(ended(written), b' '), room)
 }

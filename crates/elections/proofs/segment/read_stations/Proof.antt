@@ -1,16 +1,14 @@
--- `elections::segment::read_stations` is safe and ends: the number of stations is at most 16. Assumes nothing.
-use mathlib.Core.Path.{_≡_}
+-- `elections::segment::read_stations` is safe and ends: the stations left grow fewer, and are at most 16. Assumes nothing.
 use Prim.Native.Nat.{_-_, _≤_}
-use lib.ListN.{length}
 use borrow.Author.Needs.{needs}
 use Rattle.elections.proofs.segment.read_stations.Statement.{statement}
 use Rattle.elections.proofs.segment.read_stations.Tie as tie
 
 abbrev Inv-loop : tie.InvT-loop
-Inv-loop used segment₀ end at₀ segment at = (end ≤ 16) × (at ≤ end)
+Inv-loop count segment₀ end at₀ segment at = (end ≤ 16) × (at ≤ end)
 
 abbrev μ-loop : tie.MeasureT-loop
-μ-loop used segment₀ end at₀ segment at = end - at
+μ-loop count segment₀ end at₀ segment at = end - at
 
 nobody-requires : tie.Need-nobody-requires Inv-loop μ-loop
 nobody-requires c κs = search needs
@@ -36,9 +34,6 @@ loop-again c = search needs
 returns : tie.Need-returns Inv-loop μ-loop
 returns c = search needs
 
-returns-2 : tie.Need-returns-2 Inv-loop μ-loop
-returns-2 c = search needs
-
 pub read-stations-spec : {M : Type 1} → statement M
 read-stations-spec =
     tie.close
@@ -52,5 +47,4 @@ read-stations-spec =
     add-at
     loop-less
     loop-again
-    returns
-    returns-2)
+    returns)
