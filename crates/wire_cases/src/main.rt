@@ -1,4 +1,4 @@
-// Hands cases to the library `wire`, one binary record each on standard input, and prints a line for each answer.
+// Hands cases to judging and writing, one binary record each on standard input, and prints a line for each answer.
 mod lines; // the line of each answer
 
 use crate::lines::judged;
