@@ -1,5 +1,8 @@
 // The stations of a record, as far as each has come, and the deliveries among them. A bad record is read to
 // its end all the same, and the segment keeps that it is bad.
+use lent::clock_in;
+use lent::deliver_in;
+use lent::startup_in;
 use records::reading::Head;
 use records::reading::least;
 use records::reading::number_at;
@@ -7,9 +10,6 @@ use records::reading::read_head;
 use records::reading::word_at;
 use station::making::new_station;
 use station::station::Station;
-use stations::lent::clock_in;
-use stations::lent::deliver_in;
-use stations::lent::startup_in;
 ghost use Prim.Native.Nat.{_<_, _≤_};
 
 pub struct Segment {

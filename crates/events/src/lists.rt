@@ -1,5 +1,5 @@
 // Address lists in lent bytes: 64 for each place.
-use writing::room::put;
+use rooms::put;
 ghost use mathlib.Core.Path.{_≡_};
 ghost use Prim.Native.Nat.{_≤_, _<_};
 ghost use lib.ListN.{length};

@@ -22,7 +22,7 @@ use Rattle.events.specs.declared.answer.Answered.the-variants.{Done, Short}
 use Rattle.station.specs.declared.station.Station.{Station}
 use Rattle.station.specs.Station.{Result, refuses, listOf, withRouter, withFrame}
 use Rattle.station.specs.Acting.{writtenBy, neededBy, actedBy}
-use Rattle.steps.specs.Hearing.{countedBy, refusalBy, acceptedOutcome, acceptedBy, judgedBy, heardBy}
+use Rattle.hearing.specs.Hearing.{countedBy, refusalBy, acceptedOutcome, acceptedBy, judgedBy, heardBy}
 use Rattle.steps.specs.Steps.{happenedTo, clockedBy}
 use Rattle.in_tables.specs.Latest.{Keeps}
 use Rattle.in_tables.specs.Theorems.{EventKeeps, ClockKeeps, PacketKeeps}

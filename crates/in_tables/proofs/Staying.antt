@@ -20,7 +20,7 @@ use Rattle.router.proofs.Kept.{Kept, step-keeps, ticked-keeps}
 use Rattle.station.specs.declared.station.Station.{Station}
 use Rattle.station.specs.Station.{Result, listOf, withRouter, withFrame}
 use Rattle.station.specs.Acting.{writtenBy, neededBy, actedBy}
-use Rattle.steps.specs.Hearing.{countedBy, refusalBy, acceptedOutcome, acceptedBy, judgedBy, heardBy}
+use Rattle.hearing.specs.Hearing.{countedBy, refusalBy, acceptedOutcome, acceptedBy, judgedBy, heardBy}
 use Rattle.steps.specs.Steps.{happenedTo, clockedBy}
 use Rattle.in_tables.specs.Tables.{WellFormed}
 use Rattle.in_tables.specs.Theorems.{EventStays, ClockStays, PacketStays}

@@ -23,7 +23,7 @@ use Rattle.events.specs.Result.{routerPlace}
 use Rattle.events.proofs.Sought.{sought-word}
 use Rattle.station.specs.declared.station.Station.{Station}
 use Rattle.station.specs.Station.{listOf, withRouter}
-use Rattle.steps.specs.Hearing.{countedBy}
+use Rattle.hearing.specs.Hearing.{countedBy}
 use Rattle.in_tables.specs.Tables.{interfaceOf, wordsOf, listsOf, WellFormed}
 
 -- what is pasted over the middle one of three lists takes its place

@@ -26,12 +26,12 @@ use Rattle.packets.specs.Packets.{refusalAt, acceptedAt, heardAt, soughtAt, jud
 use Rattle.station.specs.declared.station.Station.{Station}
 use Rattle.station.specs.Station.{Result, refuses, listOf, packetOf, withRouter, withFrame}
 use Rattle.station.specs.Acting.{writtenBy, neededBy, keptBy, actedBy}
-use Rattle.steps.specs.Hearing.{countedBy, refusalBy, acceptedOutcome, acceptedBy, judgedBy, heardBy}
+use Rattle.hearing.specs.Hearing.{countedBy, refusalBy, acceptedOutcome, acceptedBy, judgedBy, heardBy}
 use Rattle.steps.specs.Steps.{happenedTo, clockedBy, deliveredTo}
 use Rattle.in_tables.specs.Tables.{wordsOf, listsOf, inTable, WellFormed}
 use Rattle.in_tables.specs.Theorems.{OneStep, EventInTable, ClockInTable, PacketInTable, DeliveryInTable}
 use Rattle.station.proofs.Arrays.{list-length}
-use Rattle.steps.proofs.Heard.{refused-least}
+use Rattle.hearing.proofs.Heard.{refused-least}
 use Rattle.in_tables.proofs.Tables.{store-first, first-record, primary-is, found-first, nothing-else}
 use Rattle.in_tables.proofs.Tables.{few, first-list, count-first}
 

@@ -21,7 +21,7 @@ use Rattle.station.specs.declared.station.Stepped.{Stepped}
 use Rattle.station.specs.Station.{Result, Leaves, listOf, packetOf}
 use Rattle.station.specs.Making.{stationRefusal, madeOf}
 use Rattle.station.specs.Acting.{neededBy, keptBy}
-use Rattle.steps.specs.Hearing.{heardBy}
+use Rattle.hearing.specs.Hearing.{heardBy}
 use Rattle.steps.specs.Steps.{happenedTo, clockedBy, deliveredTo}
 use Rattle.in_tables.specs.Latest.{Keeps, advertised}
 use Rattle.in_tables.specs.Tables.{wordsOf, listsOf, inTable, WellFormed}

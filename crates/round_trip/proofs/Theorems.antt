@@ -8,7 +8,7 @@ use native.Mathlib.Omega.{arith}
 use lib.Dec.{eqb}
 use lib.ListN.{length}
 use borrow.Author.Tests.{eqb-true}
-use Rattle.writing.specs.declared.room.Written.the-variants.{Frame, Refused, Short}
+use Rattle.rooms.specs.declared.Written.the-variants.{Frame, Refused, Short}
 use Rattle.wire.specs.Check.{Check, firstRefusal, Passes}
 use Rattle.writing.specs.Frame.{messageOf}
 use Rattle.judging.specs.Judging.{packetChecks, refusalOf}

@@ -8,8 +8,8 @@ use lib.ListN.{length, take, drop}
 use Rattle.sums.specs.Sum.{Bytes}
 use Rattle.judging.specs.declared.Judged.{Judged}
 use Rattle.judging.specs.declared.Judged.the-variants.{Accepted}
-use Rattle.writing.specs.declared.room.Written.{Written}
-use Rattle.writing.specs.declared.room.Written.the-variants.{Frame}
+use Rattle.rooms.specs.declared.Written.{Written}
+use Rattle.rooms.specs.declared.Written.the-variants.{Frame}
 use Rattle.wire.specs.Check.{Check, Passes}
 use Rattle.judging.specs.Judging.{packetChecks, refusalOf, judgedOf}
 use Rattle.writing.specs.Writing.{Wrote, AdvertisementWritten}

@@ -1,11 +1,10 @@
-mod Locals
-mod Placed
-mod Fetching
-mod Asking
-mod Rows
-mod Stepping
+pub mod Locals
+pub mod Placed
+pub mod Fetching
+pub mod Asking
+pub mod Rows
+pub mod Stepping
 pub mod ListTheorems
-mod Lending
-mod Moving
-mod OnList
-mod Advancing
+pub mod Lending
+pub mod OnList
+pub mod Advancing

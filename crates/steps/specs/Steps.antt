@@ -9,7 +9,7 @@ use Rattle.router.specs.Clock.{tickedOf}
 use Rattle.station.specs.declared.station.Station.{Station}
 use Rattle.station.specs.Station.{Result, refuses, packetOf}
 use Rattle.station.specs.Acting.{actedBy}
-use Rattle.steps.specs.Hearing.{heardBy}
+use Rattle.hearing.specs.Hearing.{heardBy}
 
 -- startup or shutdown of a station's router
 unfoldable pub happenedTo : Station → Event → List ℕ → Result

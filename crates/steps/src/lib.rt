@@ -1,8 +1,6 @@
 // The steps of a station: startup, shutdown, clock and delivery, for any station and any room.
-pub mod hearing; // a packet that is handed over
-
-use crate::hearing::hear;
 use events::answer::Answered;
+use hearing::hear;
 use states::step::Event;
 use states::step::step;
 use station::acting::act;

@@ -1,14 +1,14 @@
 // What a record does that is taken.
+use lent::deliver_in;
+use lent::pass_all_in;
+use lent::shutdown_in;
+use lent::startup_in;
 use script::kinds::Kind;
 use script::kinds::body_length;
 use script::kinds::kind_number;
 use script::progress::Reading;
 use station::making::new_station;
 use station::station::Station;
-use stations::lent::deliver_in;
-use stations::lent::pass_all_in;
-use stations::lent::shutdown_in;
-use stations::lent::startup_in;
 use sums::number;
 ghost use mathlib.Core.Path.{_≡_};
 ghost use mathlib.Core.List.{[]};

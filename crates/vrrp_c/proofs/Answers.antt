@@ -4,7 +4,7 @@ use mathlib.Core.Path.{_≡_, sym, ap, _∙_}
 use mathlib.Core.List.{List}
 use Prim.Native.Nat.{ℕ}
 use Rattle.judging.specs.declared.Judged.{Judged}
-use Rattle.writing.specs.declared.room.Written.{Written}
+use Rattle.rooms.specs.declared.Written.{Written}
 use Rattle.judging.specs.Judging.{refusalOf, judgedOf, judgedNumber}
 use Rattle.writing.specs.Writing.{writtenNumber, Wrote}
 use Rattle.judging.proofs.Passing.{judged-number}

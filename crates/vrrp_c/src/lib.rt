@@ -1,9 +1,9 @@
 // The three calls for C (include/vrrp.h): thin over `judging` and `writing`, answering 0 or the refusal's number alone.
 use judging::Judged;
 use judging::judge;
+use rooms::Written;
 use writing::arp::write_arp;
 use writing::frame::write_advertisement;
-use writing::room::Written;
 ghost use mathlib.Core.Path.{_≡_};
 ghost use Rattle.judging.specs.Judging.{refusalOf};
 ghost use Rattle.writing.specs.Writing.{writtenNumber};

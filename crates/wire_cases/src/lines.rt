@@ -10,7 +10,7 @@ use records::page::with_hex;
 use records::page::with_number;
 use records::page::with_numbers;
 use records::page::with_text;
-use writing::room::Written;
+use rooms::Written;
 
 // The VRID, the priority, the address count, the authentication type and the interval of an accepted packet.
 fn numbers(fields: Fields) -> [u32; 5] {

@@ -8,7 +8,7 @@ use native.Mathlib.Omega.{arith}
 use lib.Dec.{eqb, ltb}
 use lib.ListN.{length}
 use borrow.Author.Tests.{eqb-true, ne-eqb}
-use Rattle.writing.specs.declared.room.Written.the-variants.{Frame, Refused, Short}
+use Rattle.rooms.specs.declared.Written.the-variants.{Frame, Refused, Short}
 use Rattle.writing.specs.Writing.{addressBytesWrong, advertisementChecks, advertisementRefusal}
 use Rattle.writing.specs.Writing.{arpChecks, arpRefusal, answerOf, writtenNumber, over, Wrote}
 use Rattle.wire.proofs.Tested.{tests, three-passed}

@@ -5,8 +5,8 @@ use mathlib.Core.List.{List, [], _∷_, _++_}
 use mathlib.Core.Bool.{Bool, cond, not, _||_}
 use lib.Dec.{ltb, eqb}
 use lib.ListN.{length, drop}
-use Rattle.writing.specs.declared.room.Written.{Written}
-use Rattle.writing.specs.declared.room.Written.the-variants.{Frame, Refused, Short}
+use Rattle.rooms.specs.declared.Written.{Written}
+use Rattle.rooms.specs.declared.Written.the-variants.{Frame, Refused, Short}
 use Rattle.wire.specs.Check.{Check, firstRefusal}
 use Rattle.writing.specs.Frame.{frameOf}
 use Rattle.writing.specs.Arp.{arpOf}

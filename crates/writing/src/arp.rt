@@ -1,10 +1,10 @@
 // The gratuitous ARP frame.
-use crate::bytes::lowest;
-use crate::bytes::second;
-use crate::bytes::third;
-use crate::bytes::top;
-use crate::room::Written;
-use crate::room::put;
+use rooms::Written;
+use rooms::bytes::lowest;
+use rooms::bytes::second;
+use rooms::bytes::third;
+use rooms::bytes::top;
+use rooms::put;
 ghost use mathlib.Core.Path.{_≡_};
 ghost use Prim.Native.Nat.{_≤_};
 ghost use lib.ListN.{length};

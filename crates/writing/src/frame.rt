@@ -1,12 +1,12 @@
 // The advertisement frame: Ethernet, IPv4 header and VRRP message.
 use crate::addresses::address_bytes_wrong;
-use crate::bytes::high;
-use crate::bytes::lowest;
-use crate::bytes::second;
-use crate::bytes::third;
-use crate::bytes::top;
-use crate::room::Written;
-use crate::room::put;
+use rooms::Written;
+use rooms::bytes::high;
+use rooms::bytes::lowest;
+use rooms::bytes::second;
+use rooms::bytes::third;
+use rooms::bytes::top;
+use rooms::put;
 use sums::fold;
 use sums::number;
 use sums::plain_total;

@@ -7,7 +7,7 @@ use borrow.Author.Needs.{needs}
 use borrow.Author.Tests.{eq-eqb, ne-eqb}
 use denote.Ref.{now}
 use lib.ListN.{length}
-use Rattle.steps.specs.Hearing.{heardBy}
+use Rattle.hearing.specs.Hearing.{heardBy}
 use Rattle.steps.specs.Steps.{deliveredTo}
 use Rattle.station.proofs.Arrays.{array-long, part-is-packet}
 use Rattle.station.proofs.Acted.{leaves-equal}

@@ -1,0 +1,63 @@
+-- The ends of handing a packet over to a station.
+-- Assumes nothing.
+use mathlib.Core.Path.{_≡_, refl}
+use mathlib.Core.Bool.{Bool, true, false, cond}
+use mathlib.Core.List.{List}
+use Prim.Native.Nat.{ℕ}
+use native.Mathlib.Omega.{arith}
+use lib.Dec.{eqb}
+use borrow.Author.Tests.{eq-eqb, ne-eqb, eqb-false}
+use Rattle.judging.specs.declared.Fields.{Fields}
+use Rattle.judging.specs.declared.Judged.the-variants.{Accepted, Refused as JudgedRefused}
+use Rattle.judging.specs.Judging.{refusalOf, fieldsOf, judgedOf}
+use Rattle.states.specs.declared.step.Outcome.{Outcome}
+use Rattle.router.specs.Accept.{refusedOf}
+use Rattle.events.specs.declared.answer.Answered.the-variants.{Refused}
+use Rattle.station.specs.declared.station.Station.{Station}
+use Rattle.station.specs.declared.station.Stepped.{Stepped}
+use Rattle.station.specs.Station.{Leaves, withRouter}
+use Rattle.station.specs.Acting.{actedBy}
+use Rattle.hearing.specs.Hearing.{refusedBy, refusalBy, acceptedOutcome, acceptedBy, soughtBy, heardBy}
+
+-- a packet that is refused is refused by 1 or more
+least-test : (t : Bool) (packet : List ℕ) (number : ℕ) → eqb (refusalOf packet) 0 ≡ t
+    → JudgedRefused number ≡ cond t (Accepted (fieldsOf packet)) (JudgedRefused (refusalOf packet)) → number ≡ 0 → ⊥
+least-test true packet number e f z = let y : _≡_ {A = ℕ} 0 1 = cc in omega arith
+least-test false packet number e f z =
+    let y : refusalOf packet ≡ number = cc in eqb-false (refusalOf packet) 0 e (omega arith)
+
+pub refused-least : (packet : List ℕ) (number : ℕ) → JudgedRefused number ≡ judgedOf packet → ¬ (number ≡ 0)
+unfolding judgedOf
+refused-least packet number f = least-test (eqb (refusalOf packet) 0) packet number refl f
+
+module _ (s : Station) (packet : List ℕ) (f : Fields) (room : List ℕ) where
+  pub heard-refused : (number : ℕ) (station : Station) → number ≡ refusalBy s packet f → ¬ (number ≡ 0)
+      → station ≡ withRouter s (refusedOf (s .router) number)
+      → Leaves (acceptedBy s packet f room) (record { station = station; answer = Refused number }) room
+  heard-refused number station e n w =
+      let t = ne-eqb number 0 n in
+      record { answer-is = rw (← e, t); station-is = rw (← e, t, w); room-is = rw (← e, t) }
+
+  pub heard-accepted : (o : Outcome) → refusalBy s packet f ≡ 0 → o ≡ acceptedOutcome s f
+      → actedBy s o 0 room ≡ acceptedBy s packet f room
+  heard-accepted o e h = rw (e, h)
+
+  pub sought-other : (stepped : Stepped) → ¬ (f .vrid ≡ s .router .vrid) → stepped ≡ refusedBy s 9
+      → Leaves (soughtBy s packet f room) stepped room
+  sought-other stepped n e =
+      let t = ne-eqb (f .vrid) (s .router .vrid) n in
+      record { answer-is = rw (t, e); station-is = rw (t, e); room-is = rw t }
+
+  pub sought-ours : f .vrid ≡ s .router .vrid → acceptedBy s packet f room ≡ soughtBy s packet f room
+  sought-ours e = rw (eq-eqb (f .vrid) (s .router .vrid) e)
+
+module _ (s : Station) (packet room : List ℕ) where
+  pub heard-unfit : (number : ℕ) (stepped : Stepped) → judgedOf packet ≡ JudgedRefused number
+      → stepped ≡ refusedBy s number
+      → Leaves (heardBy s packet room) stepped room
+  unfolding heardBy
+  heard-unfit number stepped e w = record { answer-is = rw (e, w); station-is = rw (e, w); room-is = rw e }
+
+  pub heard-fit : (f : Fields) → judgedOf packet ≡ Accepted f → soughtBy s packet f room ≡ heardBy s packet room
+  unfolding heardBy
+  heard-fit f e = rw e
