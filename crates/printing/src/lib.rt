@@ -26,7 +26,7 @@ fn letter_of(state: State) -> u8
 }
 
 // Puts a space and a letter for each station that is used, as much as fits.
-pub fn put_letters(out: &mut [u8], at: usize, stations: [Station; 16], used: usize) -> usize
+fn put_letters(out: &mut [u8], at: usize, stations: [Station; 16], used: usize) -> usize
     ensures { λ r. ⌜ Appended (now (out .entry)) at (32 ∷ lettersOf used stations) (now (out .exit)) r ⌝ }
 {
     let mut next = put_byte(out, at, b' ');
