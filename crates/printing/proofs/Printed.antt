@@ -1,4 +1,4 @@
--- What a record of each kind prints: what the functions of `lines` cite.
+-- What a record of each kind prints: what the functions here cite.
 -- Assumes nothing.
 use mathlib.Core.Path.{_≡_, refl}
 use mathlib.Core.List.{List, []}

@@ -1,4 +1,4 @@
--- The lines of the rehearsal in a room: what the functions of `lines` cite.
+-- The lines of the rehearsal in a room: what the functions here cite.
 -- Assumes nothing.
 use mathlib.Core.Path.{_≡_, refl, ap, _∙_}
 use mathlib.Core.List.{List, [], _∷_, _++_}

@@ -1,4 +1,4 @@
--- What refuses a record: what the functions of `refusals` cite.
+-- What refuses a record: what the functions here cite.
 -- Assumes nothing.
 use mathlib.Core.Path.{_≡_, sym, _∙_}
 use mathlib.Core.Bool.{Bool, cond}

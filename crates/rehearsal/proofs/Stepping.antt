@@ -1,4 +1,4 @@
--- One record of a run, and one after another: what the functions of `run` cite.
+-- One record of a run, and one after another: what `run` cites.
 -- Assumes nothing.
 use mathlib.Core.Path.{_≡_, refl, sym, ap, subst, _∙_}
 use mathlib.Core.Bool.{Bool, true, false, cond, not, _||_}

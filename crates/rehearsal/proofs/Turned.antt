@@ -1,4 +1,4 @@
--- The next record, with the stations apart from the rest, is a step of the run: what the functions of `run` cite.
+-- The next record, with the stations apart from the rest, is a step of the run: what `run` cites.
 -- Assumes nothing.
 use mathlib.Core.Path.{_≡_, refl, sym, ap, subst, _∙_}
 use mathlib.Core.Bool.{Bool, true, false, cond}

@@ -1,4 +1,4 @@
--- What a record of each kind comes to: what the functions of `records` cite.
+-- What a record of each kind comes to: what the functions here cite.
 -- Assumes nothing.
 use mathlib.Core.Path.{_≡_, refl, sym, ap, _∙_}
 use mathlib.Core.List.{List, [], _∷_}

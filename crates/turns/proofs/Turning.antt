@@ -1,4 +1,4 @@
--- The next record of a run, with the stations apart from the rest: what the functions of `turn` cite.
+-- The next record of a run, with the stations apart from the rest: what `turn_of` cites.
 -- Assumes nothing.
 use mathlib.Core.Path.{_≡_, refl, sym, _∙_}
 use mathlib.Core.Bool.{true}
