@@ -2,3 +2,5 @@ pub mod Finding
 pub mod Parts
 pub mod Records
 pub mod Words
+pub mod Beside
+pub mod Events

@@ -29,7 +29,7 @@ flag-back : (b : Bool) → eqb (flagOf b) 1 ≡ b
 flag-back true = refl
 flag-back false = refl
 
-state-back : (s : State) → stateOf (stateNumber s) ≡ s
+pub state-back : (s : State) → stateOf (stateNumber s) ≡ s
 state-back Initialize = refl
 state-back Backup = refl
 state-back Master = refl

@@ -14,7 +14,7 @@ fn flag(b: bool) -> u32
     if b { 1 } else { 0 }
 }
 
-fn state_of(word: u32) -> State
+pub fn state_of(word: u32) -> State
     ensures { λ r. ⌜ r ≡ stateOf word ⌝ }
 {
     if word == 0 {

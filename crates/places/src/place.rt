@@ -1,12 +1,15 @@
 // Reading, writing and finding a place.
 use crate::layout::decode;
 use crate::layout::encode;
+use crate::layout::state_of;
 use states::record::Router;
+use states::record::State;
+use states::step::state_number;
 ghost use mathlib.Core.Path.{_≡_};
 ghost use Prim.Native.Nat.{_+_, _≤_, _<_};
 ghost use lib.ListN.{length};
 ghost use lib.Seq.{paste};
-ghost use Rattle.places.specs.Place.{recordAt, setRecord, placeOf};
+ghost use Rattle.places.specs.Place.{recordAt, setRecord, stateWord, setEvent, countAtPlace, placeOf};
 
 pub enum Found {
     At(usize),
@@ -42,6 +45,43 @@ pub fn store(words: &mut [u32], place: usize, r: Router)
 {
     let record = encode(r);
     put(words, 16 + 16 * place, &record)
+}
+
+// The word of a state, where this one stood: it stays where the state stays.
+fn state_word(word: u32, state: State) -> u32
+    ensures { λ r. ⌜ r ≡ stateWord word state ⌝ }
+{
+    let stood = state_of(word);
+    let number = state_number(state);
+    if state_number(stood) == number {
+        return word;
+    }
+    number
+}
+
+// The table with what an event changes of the router at a place: its state, its timer and its counts.
+pub fn store_event(words: &mut [u32], place: usize, r: Router)
+    requires { ⌜ (place < 255) × (length (now words) ≡ 4096) ⌝ }
+    ensures { λ _. ⌜ now (words .exit) ≡ setEvent (now (words .entry)) place r ⌝ }
+{
+    let start = 16 + 16 * place;
+    let state = r.state;
+    let counts = r.counts;
+    let word = state_word(words[start + 4], state);
+    words[start + 4] = word;
+    words[start + 5] = r.timer;
+    words[start + 7] = counts.accepted;
+    words[start + 8] = counts.became;
+}
+
+// The table with a refusal of 10 to 13 counted for the router at a place.
+pub fn count_at_place(words: &mut [u32], place: usize, number: u32)
+    requires { ⌜ (place < 255) × (length (now words) ≡ 4096) ⌝ }
+    requires { ⌜ (10 ≤ number) × (number ≤ 13) ⌝ }
+    ensures { λ _. ⌜ now (words .exit) ≡ countAtPlace (now (words .entry)) place number ⌝ }
+{
+    let at = 16 + 16 * place + ((number - 1) as usize);
+    words[at] = std::num::wrapping_add_u32(words[at], 1);
 }
 
 // The lowest place whose first word is `vrid`: the place of a virtual router, or for 0 the lowest free one.
