@@ -114,15 +114,13 @@ fn wait(r: Router) -> Turn
     }
 }
 
-// Backup, with only the skew to wait: the Master has left.
+// The same with only the skew to wait: the Master has left.
 fn hurry(r: Router) -> Turn
     ensures { λ t. ⌜ t ≡ turnOf (hurries r) ⌝ }
 {
-    Turn {
-        state: State::Backup,
-        timer: skew(r.priority),
-        writes: Writes::Nothing,
-    }
+    let mut t = wait(r);
+    t.timer = skew(r.priority);
+    t
 }
 
 // Initialize, with no timer.
