@@ -10,7 +10,8 @@ use Rattle.states.specs.declared.record.Router.{Router}
 use Rattle.states.specs.declared.step.Event.{Event}
 use Rattle.states.specs.declared.step.Event.the-variants.{Startup, Shutdown, Timer, Packet}
 use Rattle.states.specs.declared.step.Outcome.{Outcome}
-use Rattle.states.specs.Step.{stays, waits, hurries, advertises, takesOver, beats, heardByBackup, heardByMaster, stepIn, stepOf}
+use Rattle.states.specs.Step.{stays, waits, hurries, advertises, takesOver, beats, heardByBackup, heardByMaster}
+use Rattle.states.specs.Step.{stepIn, stepOf}
 use Rattle.states.specs.Turn.{turnOf, appliedTo}
 
 module _ (r : Router) where

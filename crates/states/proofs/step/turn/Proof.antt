@@ -6,8 +6,9 @@ use native.Mathlib.Omega.{arith}
 use borrow.Author.Needs.{needs}
 use Rattle.states.specs.Step.{heardByBackup, heardByMaster}
 use Rattle.states.specs.Turn.{turnOf}
-use Rattle.states.proofs.Rows.{owner-starts, other-starts, backup-stops, backup-fires, backup-hears-farewell, backup-hears-other}
-use Rattle.states.proofs.Rows.{master-stops, master-fires, master-hears-farewell, master-hears-other, stays-unlisted}
+use Rattle.states.proofs.Rows.{owner-starts, other-starts, stays-unlisted}
+use Rattle.states.proofs.Rows.{backup-stops, backup-fires, backup-hears-farewell, backup-hears-other}
+use Rattle.states.proofs.Rows.{master-stops, master-fires, master-hears-farewell, master-hears-other}
 use Rattle.states.proofs.step.turn.Statement.{statement}
 use Rattle.states.proofs.step.turn.Tie as tie
 
@@ -106,7 +107,7 @@ returns-7 c =
     let at-priority = c .before .before .before .before .before .before .before .before .before .before in
     let a = at-priority .before .args in
     c .hear-as-backup .ensures
-    ∙ ap (λ p. turnOf (heardByBackup (a .r) p)) (at-priority .event-priority .ensures)
+    ∙ ap (λ x. turnOf (heardByBackup (a .r) x)) (at-priority .event-priority .ensures)
     ∙ ap turnOf (backup-hears-other (a .primary) (a .r) (a .event) (omega arith) (omega arith) (omega arith))
 
 returns-8 : tie.Need-returns-8
@@ -128,7 +129,7 @@ returns-10 c =
     let n = c .before .before .before .before .before .before .before .event-number .ensures in
     let s = c .before .before .before .before .before .before .before .before .state-number .ensures in
     c .hear-as-master .ensures
-    ∙ ap₂ (λ p q. turnOf (heardByMaster (a .primary) (a .r) p q)) (at-priority .event-priority .ensures) (at-source .event-source .ensures)
+    ∙ ap₂ (λ x y. turnOf (heardByMaster (a .primary) (a .r) x y)) p (at-source .event-source .ensures)
     ∙ ap turnOf (master-hears-other (a .primary) (a .r) (a .event) (omega arith) (omega arith) (omega arith))
 
 returns-11 : tie.Need-returns-11
