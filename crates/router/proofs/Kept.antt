@@ -1,27 +1,24 @@
--- What no event changes in a router: how it was configured.
+-- What no clock step changes of a router.
 -- Assumes nothing.
-use mathlib.Core.Path.{_≡_, refl}
-use mathlib.Core.Bool.{Bool, true, false, cond, not, _||_}
+use mathlib.Core.Bool.{Bool, true, false, cond}
 use Prim.Native.Nat.{ℕ}
-use lib.Dec.{eqb, leb, ltb}
+use lib.Dec.{ltb}
 use Rattle.states.specs.declared.record.State.{State}
 use Rattle.states.specs.declared.record.State.the-variants.{Initialize, Backup, Master}
 use Rattle.states.specs.declared.record.Router.{Router}
-use Rattle.states.specs.declared.step.Event.{Event}
-use Rattle.states.specs.declared.step.Event.the-variants.{Startup, Shutdown, Timer, Packet}
-use Rattle.states.specs.declared.step.Writes.the-variants.{Nothing, Farewell}
-use Rattle.states.specs.declared.step.Outcome.{Outcome}
-use Rattle.states.specs.Step.{stays, waits, hurries, stops, advertises, takesOver, beats, heardByBackup, heardByMaster}
-use Rattle.states.specs.Step.{stepIn, stepOf}
-use Rattle.states.proofs.Kept.{Kept, kept, entered, step-keeps}
+use Rattle.states.specs.declared.step.Event.the-variants.{Timer}
+use Rattle.states.specs.Step.{stays}
+use Rattle.states.specs.Turn.{turnOf}
+use Rattle.states.proofs.Kept.{applied-keeps}
 use Rattle.router.specs.Clock.{falls, fires, tickedIn, tickedOf}
+pub use Rattle.states.proofs.Kept.{Kept, step-keeps}
 
 run-keeps : (t : Bool) (primary : ℕ) (r : Router) (d : ℕ) → Kept r (cond t (falls r d) (fires primary r d) .outcome .router)
-run-keeps true primary r d = entered r _ _
+run-keeps true primary r d = applied-keeps r (turnOf (falls r d .outcome))
 run-keeps false primary r d = step-keeps primary r Timer
 
 ticked-keeps-in : (s : State) (primary : ℕ) (r : Router) (d : ℕ) → Kept r (tickedIn s primary r d .outcome .router)
-ticked-keeps-in Initialize primary r d = kept r
+ticked-keeps-in Initialize primary r d = applied-keeps r (turnOf (stays r))
 ticked-keeps-in Backup primary r d = run-keeps (ltb d (r .timer)) primary r d
 ticked-keeps-in Master primary r d = run-keeps (ltb d (r .timer)) primary r d
 

@@ -1,2 +1,3 @@
 pub mod Timers
 pub mod Step
+pub mod Turn

@@ -1,4 +1,5 @@
 // The record of one virtual router.
+use crate::step::Writes;
 
 pub enum State {
     Initialize,
@@ -32,4 +33,11 @@ pub struct Router {
     // how many virtual addresses it has
     pub count: u8,
     pub counts: Counts,
+}
+
+// What an event changes of a router: its next state and timer, and what it has it write.
+pub struct Turn {
+    pub state: State,
+    pub timer: u32,
+    pub writes: Writes,
 }

@@ -1,14 +1,16 @@
 // The state-by-event table (RFC 3768 section 6.4), as one match.
 use crate::record::Router;
 use crate::record::State;
+use crate::record::Turn;
 use crate::timers::advertisement_interval;
 use crate::timers::master_down;
 use crate::timers::skew;
 ghost use mathlib.Core.Path.{_≡_};
 ghost use Prim.Native.Nat.{_≤_};
-ghost use Rattle.states.specs.Step.{stateNumber, eventNumber, eventPriority, eventSource, becameMaster};
+ghost use Rattle.states.specs.Step.{stateNumber, eventNumber, eventPriority, eventSource};
 ghost use Rattle.states.specs.Step.{stays, waits, hurries, stops, advertises, takesOver};
-ghost use Rattle.states.specs.Step.{heardByBackup, heardByMaster, withCounts, enters, stepOf};
+ghost use Rattle.states.specs.Step.{heardByBackup, heardByMaster, stepOf};
+ghost use Rattle.states.specs.Turn.{turnOf, becameBy, appliedTo};
 
 pub enum Event {
     Startup,
@@ -89,92 +91,74 @@ pub fn stay(r: Router) -> Outcome
     }
 }
 
-// The router with another state and timer, and what it writes.
-fn enter(r: Router, state: State, timer: u32, writes: Writes) -> Outcome
-    ensures { λ s. ⌜ s ≡ enters r state timer writes ⌝ }
+// Nothing changes.
+fn no_change(r: Router) -> Turn
+    ensures { λ t. ⌜ t ≡ turnOf (stays r) ⌝ }
 {
-    let counts = r.counts;
-    let router = Router {
-        vrid: r.vrid,
-        priority: r.priority,
-        interval: r.interval,
-        preempt: r.preempt,
+    let state = r.state;
+    Turn {
         state: state,
-        timer: timer,
-        count: r.count,
-        counts: counts,
-    };
-    Outcome {
-        router: router,
-        writes: writes,
+        timer: r.timer,
+        writes: Writes::Nothing,
     }
 }
 
 // Backup, with the whole master down interval to wait.
-fn wait(r: Router) -> Outcome
-    ensures { λ s. ⌜ s ≡ waits r ⌝ }
+fn wait(r: Router) -> Turn
+    ensures { λ t. ⌜ t ≡ turnOf (waits r) ⌝ }
 {
-    enter(
-        r,
-        State::Backup,
-        master_down(r.priority, r.interval),
-        Writes::Nothing,
-    )
+    Turn {
+        state: State::Backup,
+        timer: master_down(r.priority, r.interval),
+        writes: Writes::Nothing,
+    }
 }
 
-// Backup, with only the skew to wait: the Master has left.
-fn hurry(r: Router) -> Outcome
-    ensures { λ s. ⌜ s ≡ hurries r ⌝ }
+// The same with only the skew to wait: the Master has left.
+fn hurry(r: Router) -> Turn
+    ensures { λ t. ⌜ t ≡ turnOf (hurries r) ⌝ }
 {
-    enter(r, State::Backup, skew(r.priority), Writes::Nothing)
+    let mut t = wait(r);
+    t.timer = skew(r.priority);
+    t
 }
 
 // Initialize, with no timer.
-fn stop(r: Router, writes: Writes) -> Outcome
-    ensures { λ s. ⌜ s ≡ stops r writes ⌝ }
+fn stop(r: Router, writes: Writes) -> Turn
+    ensures { λ t. ⌜ t ≡ turnOf (stops r writes) ⌝ }
 {
-    enter(r, State::Initialize, 0, writes)
+    Turn {
+        state: State::Initialize,
+        timer: 0,
+        writes: writes,
+    }
 }
 
 // Master, advertising.
-fn advertise(r: Router) -> Outcome
-    ensures { λ s. ⌜ s ≡ advertises r ⌝ }
+fn advertise(r: Router) -> Turn
+    ensures { λ t. ⌜ t ≡ turnOf (advertises r) ⌝ }
 {
-    enter(
-        r,
-        State::Master,
-        advertisement_interval(r.interval),
-        Writes::Advertisement,
-    )
+    Turn {
+        state: State::Master,
+        timer: advertisement_interval(r.interval),
+        writes: Writes::Advertisement,
+    }
 }
 
-// The router with one more time that it became Master.
-fn count_master(r: Router) -> Router
-    ensures { λ s. ⌜ s ≡ withCounts r (becameMaster (r .counts)) ⌝ }
+// Master, anew: it writes ARP frames too.
+fn take_over(r: Router) -> Turn
+    ensures { λ t. ⌜ t ≡ turnOf (takesOver r) ⌝ }
 {
-    let mut counts = r.counts;
-    counts.became = std::num::wrapping_add_u32(counts.became, 1);
-    let mut counted = r;
-    counted.counts = counts;
-    counted
-}
-
-// Master, anew: it counts, and writes ARP frames too.
-fn take_over(r: Router) -> Outcome
-    ensures { λ s. ⌜ s ≡ takesOver r ⌝ }
-{
-    let counted = count_master(r);
-    enter(
-        counted,
-        State::Master,
-        advertisement_interval(r.interval),
-        Writes::Takeover,
-    )
+    Turn {
+        state: State::Master,
+        timer: advertisement_interval(r.interval),
+        writes: Writes::Takeover,
+    }
 }
 
 // A Backup that hears a priority of 1 or more.
-fn hear_as_backup(r: Router, theirs: u8) -> Outcome
-    ensures { λ s. ⌜ s ≡ heardByBackup r theirs ⌝ }
+fn hear_as_backup(r: Router, theirs: u8) -> Turn
+    ensures { λ t. ⌜ t ≡ turnOf (heardByBackup r theirs) ⌝ }
 {
     if !r.preempt {
         return wait(r);
@@ -182,28 +166,28 @@ fn hear_as_backup(r: Router, theirs: u8) -> Outcome
     if r.priority <= theirs {
         return wait(r);
     }
-    stay(r)
+    no_change(r)
 }
 
 // A Master that hears a priority of 1 or more: addresses are compared as 32-bit numbers.
-fn hear_as_master(r: Router, primary: u32, theirs: u8, source: u32) -> Outcome
-    ensures { λ s. ⌜ s ≡ heardByMaster primary r theirs source ⌝ }
+fn hear_as_master(r: Router, primary: u32, theirs: u8, source: u32) -> Turn
+    ensures { λ t. ⌜ t ≡ turnOf (heardByMaster primary r theirs source) ⌝ }
 {
     if r.priority < theirs {
         return wait(r);
     }
     if theirs != r.priority {
-        return stay(r);
+        return no_change(r);
     }
     if primary < source {
         return wait(r);
     }
-    stay(r)
+    no_change(r)
 }
 
-// One event on one router. A row's number is 0xSEPP: state, event, and the priority that it turns on.
-pub fn step(r: Router, primary: u32, event: Event) -> Outcome
-    ensures { λ s. ⌜ s ≡ stepOf primary r event ⌝ }
+// What one event changes of one router. A row's number is 0xSEPP: state, event, and the priority that it turns on.
+pub fn turn(r: Router, primary: u32, event: Event) -> Turn
+    ensures { λ t. ⌜ t ≡ turnOf (stepOf primary r event) ⌝ }
 {
     let state = r.state;
     let theirs = event_priority(event, r.priority);
@@ -223,6 +207,49 @@ pub fn step(r: Router, primary: u32, event: Event) -> Outcome
         0x2200..=0x22FF => advertise(r),
         0x2300 => advertise(r),
         0x2301..=0x23FE | 0x23FF => hear_as_master(r, primary, theirs, source),
-        _ => stay(r),
+        _ => no_change(r),
     }
+}
+
+// How often it became Master: a takeover counts.
+fn became_by(writes: Writes, became: u32) -> u32
+    ensures { λ r. ⌜ r ≡ becameBy writes became ⌝ }
+{
+    match writes {
+        Writes::Nothing => became,
+        Writes::Advertisement => became,
+        Writes::Farewell => became,
+        Writes::Takeover => std::num::wrapping_add_u32(became, 1),
+    }
+}
+
+// The router with what an event changes.
+pub fn applied(r: Router, t: Turn) -> Outcome
+    ensures { λ o. ⌜ o ≡ appliedTo r t ⌝ }
+{
+    let state = t.state;
+    let writes = t.writes;
+    let mut counts = r.counts;
+    counts.became = became_by(writes, counts.became);
+    let router = Router {
+        vrid: r.vrid,
+        priority: r.priority,
+        interval: r.interval,
+        preempt: r.preempt,
+        state: state,
+        timer: t.timer,
+        count: r.count,
+        counts: counts,
+    };
+    Outcome {
+        router: router,
+        writes: writes,
+    }
+}
+
+// One event on one router.
+pub fn step(r: Router, primary: u32, event: Event) -> Outcome
+    ensures { λ s. ⌜ s ≡ stepOf primary r event ⌝ }
+{
+    applied(r, turn(r, primary, event))
 }

@@ -19,13 +19,13 @@ returns-2 : tie.Need-returns-2
 returns-2 c =
     c .wait2 .ensures ∙ simp (c .before .before .before .if1 .left, le-leb _ _ (c .before .if2 .taken))
 
-stay-requires : tie.Need-stay-requires
-stay-requires c κs = search needs
+no-change-requires : tie.Need-no-change-requires
+no-change-requires c κs = search needs
 
 returns-3 : tie.Need-returns-3
 returns-3 c =
-    c .stay .ensures ∙ simp (c .before .before .before .if1 .left, lt-leb _ _ (c .before .if2 .left))
+    c .no-change .ensures ∙ simp (c .before .before .before .if1 .left, lt-leb _ _ (c .before .if2 .left))
 
 pub hear-as-backup-spec : {M : Type 1} → statement M
 hear-as-backup-spec =
-    tie.close (tie.spec wait-requires returns wait-requires-2 returns-2 stay-requires returns-3)
+    tie.close (tie.spec wait-requires returns wait-requires-2 returns-2 no-change-requires returns-3)

@@ -12,12 +12,12 @@ wait-requires c κs = search needs
 returns : tie.Need-returns
 returns c = c .wait .ensures ∙ simp (lt-ltb _ _ (c .before .if1 .taken))
 
-stay-requires : tie.Need-stay-requires
-stay-requires c κs = search needs
+no-change-requires : tie.Need-no-change-requires
+no-change-requires c κs = search needs
 
 returns-2 : tie.Need-returns-2
 returns-2 c =
-    c .stay .ensures ∙ simp (le-ltb _ _ (c .before .before .before .if1 .left), ne-eqb _ _ (c .before .if2 .taken))
+    c .no-change .ensures ∙ simp (le-ltb _ _ (c .before .before .before .if1 .left), ne-eqb _ _ (c .before .if2 .taken))
 
 wait-requires-2 : tie.Need-wait-requires-2
 wait-requires-2 c κs = search needs
@@ -28,13 +28,13 @@ returns-3 c =
     c .wait2 .ensures
     ∙ simp (le-ltb _ _ (at-if1 .if1 .left), eq-eqb _ _ (c .before .before .if2 .left), lt-ltb _ _ (c .before .if3 .taken))
 
-stay-requires-2 : tie.Need-stay-requires-2
-stay-requires-2 c κs = search needs
+no-change-requires-2 : tie.Need-no-change-requires-2
+no-change-requires-2 c κs = search needs
 
 returns-4 : tie.Need-returns-4
 returns-4 c =
     let at-if1 = c .before .before .before .before in
-    c .stay2 .ensures
+    c .no-change2 .ensures
     ∙ simp (le-ltb _ _ (at-if1 .if1 .left), eq-eqb _ _ (c .before .before .if2 .left), le-ltb _ _ (c .before .if3 .left))
 
 pub hear-as-master-spec : {M : Type 1} → statement M
@@ -43,9 +43,9 @@ hear-as-master-spec =
     (tie.spec
     wait-requires
     returns
-    stay-requires
+    no-change-requires
     returns-2
     wait-requires-2
     returns-3
-    stay-requires-2
+    no-change-requires-2
     returns-4)
