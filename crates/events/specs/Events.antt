@@ -1,8 +1,12 @@
 -- Startup, shutdown, clock and questions on the router of a VRID (01, 'Time', 'State by event').
 use Prim.Native.Nat.{ℕ}
+use mathlib.Core.Path.{_≡_}
 use mathlib.Core.List.{List}
-use mathlib.Core.Bool.{cond, _||_}
+use mathlib.Core.Bool.{false, cond, _||_}
 use lib.Dec.{eqb, ltb}
+use Rattle.states.specs.declared.record.State.the-variants.{Initialize}
+use Rattle.states.specs.declared.record.Counts.{Counts}
+use Rattle.states.specs.declared.record.Router.{Router}
 use Rattle.states.specs.declared.step.Event.{Event}
 use Rattle.states.specs.Step.{stepOf}
 use Rattle.router.specs.Clock.{tickedOf}
@@ -35,13 +39,47 @@ clockedAt (At place) words lists ticks room =
 unfoldable pub clockedOf : List ℕ → List ℕ → ℕ → ℕ → List ℕ → Result
 clockedOf words lists vrid ticks room = clockedAt (routerPlace words vrid) words lists ticks room
 
--- "A question about a VRID answers its state, its remaining timer and its counts"; 20 where it is not in the table
-abbrev pub toldAt : Found → List ℕ → Told
-toldAt Nothing words = Refused 20
-toldAt (At place) words = Of (recordAt words place)
+-- "A question about a VRID answers its state, its remaining timer and its counts": 01's number, and the router that has them
+pub record Status : Type 0 where
+  pub number : ℕ
+  pub router : Router
 
-unfoldable pub toldOf : List ℕ → ℕ → Told
-toldOf words vrid = toldAt (routerPlace words vrid) words
+-- where there is no router
+abbrev pub noRouter : Router
+noRouter =
+    record {
+      vrid = 0;
+      priority = 0;
+      interval = 0;
+      preempt = false;
+      state = Initialize;
+      timer = 0;
+      count = 0;
+      counts = record { accepted = 0; became = 0; owner = 0; authentication = 0; list = 0; interval = 0 };
+    }
+
+-- the status that each case of the enum is
+abbrev pub statusOf : Told → Status
+statusOf (Of r) = record { number = 0; router = r }
+statusOf (Refused number) = record { number = number; router = noRouter }
+
+-- a status is one value of the enum: `Refused` has not the 0 of `Of`
+abbrev pub ProperTold : Told → Type 0
+ProperTold (Of r) = Unit
+ProperTold (Refused number) = ¬ (number ≡ 0)
+
+-- at the place that was found; 20 where it is not in the table
+abbrev pub askedAt : Found → List ℕ → Status
+askedAt Nothing words = record { number = 20; router = noRouter }
+askedAt (At place) words = record { number = 0; router = recordAt words place }
+
+unfoldable pub askedOf : List ℕ → ℕ → Status
+askedOf words vrid = askedAt (routerPlace words vrid) words
+
+-- the promise of a question
+pub record Tells (status : Status) (told : Told) : Type 0 where
+  pub status-is : statusOf told ≡ status
+  pub proper : ProperTold told
 
 -- "Per interface: 1 to 9": how often a refusal was given, 0 for a number that is not counted there
 unfoldable pub interfaceCount : List ℕ → ℕ → ℕ

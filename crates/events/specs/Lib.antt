@@ -1,3 +1,4 @@
 pub mod Lists
 pub mod Result
 pub mod Events
+pub mod Turned

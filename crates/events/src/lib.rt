@@ -9,35 +9,48 @@ use crate::answer::Answered;
 use crate::answer::Told;
 use places::interface::primary;
 use places::place::Found;
+use places::place::is_idle;
 use places::place::load;
-use router::clock::Ticked;
-use router::clock::clock;
+use places::place::store_timer;
+use places::place::timer;
+use states::record::Turn;
 use states::step::Event;
-use states::step::Outcome;
-use states::step::step;
+use states::step::turn;
 ghost use mathlib.Core.Path.{_≡_};
 ghost use Prim.Native.Nat.{_<_};
 ghost use lib.ListN.{length};
 ghost use Rattle.states.specs.Step.{stepOf};
-ghost use Rattle.router.specs.Clock.{tickedOf};
+ghost use Rattle.states.specs.Turn.{turnOf};
+ghost use Rattle.places.specs.declared.place.Found.the-variants.{At};
 ghost use Rattle.places.specs.Place.{primaryOf, recordAt};
-ghost use Rattle.events.specs.Result.{Leaves};
-ghost use Rattle.events.specs.Events.{happenedOf, clockedOf, toldOf};
+ghost use Rattle.events.specs.Result.{Leaves, actedOf};
+ghost use Rattle.events.specs.Events.{happenedOf, clockedAt, clockedOf, askedOf, Tells};
 
-// What an event comes to for the router at a place.
-fn outcome_at(words: &[u32], place: usize, event: Event) -> Outcome
+// What an event changes of the router at a place.
+fn turn_at(words: &[u32], place: usize, event: Event) -> Turn
     requires { ⌜ (place < 255) × (length (now words) ≡ 4096) ⌝ }
-    ensures { λ o. ⌜ o ≡ stepOf (primaryOf (now (words .entry))) (recordAt (now (words .entry)) place) event ⌝ }
+    ensures { λ t. ⌜ t ≡ turnOf (stepOf (primaryOf (now (words .entry))) (recordAt (now (words .entry)) place) event) ⌝ }
 {
-    step(load(words, place), primary(words), event)
+    turn(load(words, place), primary(words), event)
 }
 
-// What so many ticks come to for the router at a place.
-fn ticked_at(words: &[u32], place: usize, ticks: u32) -> Ticked
-    requires { ⌜ (place < 255) × (length (now words) ≡ 4096) ⌝ }
-    ensures { λ t. ⌜ t ≡ tickedOf (primaryOf (now (words .entry))) (recordAt (now (words .entry)) place) ticks ⌝ }
+// An event for the router at a place; so many ticks are left over.
+fn happen_at(
+    words: &mut [u32],
+    lists: &[u8],
+    place: usize,
+    event: Event,
+    leftover: u32,
+    out: &mut [u8],
+) -> Answered
+    requires { ⌜ (place < 255) × (length (now words) ≡ 4096) × (length (now lists) ≡ 16320) ⌝ }
+    ensures { λ r. ⌜ Leaves
+        (actedOf (now (words .entry)) (now (lists .entry)) place
+        (stepOf (primaryOf (now (words .entry))) (recordAt (now (words .entry)) place) event) leftover (now (out .entry)))
+        r (now (words .exit)) (now (out .exit)) ⌝ }
 {
-    clock(load(words, place), primary(words), ticks)
+    let changes = turn_at(words, place, event);
+    act(words, lists, place, false, changes, leftover, out)
 }
 
 // Startup or shutdown of a virtual router.
@@ -47,12 +60,27 @@ pub fn happen(words: &mut [u32], lists: &[u8], vrid: u8, event: Event, out: &mut
         r (now (words .exit)) (now (out .exit)) ⌝ }
 {
     match seek(words, vrid) {
-        Found::At(place) => {
-            let outcome = outcome_at(words, place, event);
-            act(words, lists, place, outcome, 0, out)
-        }
+        Found::At(place) => happen_at(words, lists, place, event, 0, out),
         Found::Nothing => Answered::Refused(20),
     }
+}
+
+// A clock step for the router at a place: in Initialize nothing happens, else the timer falls, or it fires.
+fn tick_at(words: &mut [u32], lists: &[u8], place: usize, ticks: u32, out: &mut [u8]) -> Answered
+    requires { ⌜ (place < 255) × (length (now words) ≡ 4096) × (length (now lists) ≡ 16320) ⌝ }
+    ensures { λ r. ⌜ Leaves
+        (clockedAt (At place) (now (words .entry)) (now (lists .entry)) ticks (now (out .entry)))
+        r (now (words .exit)) (now (out .exit)) ⌝ }
+{
+    if is_idle(words, place) {
+        return Answered::Done(0, 0);
+    }
+    let remaining = timer(words, place);
+    if ticks < remaining {
+        store_timer(words, place, remaining - ticks);
+        return Answered::Done(0, 0);
+    }
+    happen_at(words, lists, place, Event::Timer, ticks - remaining, out)
 }
 
 // A clock step of a virtual router.
@@ -62,11 +90,7 @@ pub fn tick(words: &mut [u32], lists: &[u8], vrid: u8, ticks: u32, out: &mut [u8
         r (now (words .exit)) (now (out .exit)) ⌝ }
 {
     match seek(words, vrid) {
-        Found::At(place) => {
-            let ticked = ticked_at(words, place, ticks);
-            let outcome = ticked.outcome;
-            act(words, lists, place, outcome, ticked.leftover, out)
-        }
+        Found::At(place) => tick_at(words, lists, place, ticks, out),
         Found::Nothing => Answered::Refused(20),
     }
 }
@@ -74,7 +98,7 @@ pub fn tick(words: &mut [u32], lists: &[u8], vrid: u8, ticks: u32, out: &mut [u8
 // What a virtual router is at.
 pub fn tell(words: &[u32], vrid: u8) -> Told
     requires { ⌜ length (now words) ≡ 4096 ⌝ }
-    ensures { λ r. ⌜ r ≡ toldOf (now (words .entry)) vrid ⌝ }
+    ensures { λ r. ⌜ Tells (askedOf (now (words .entry)) vrid) r ⌝ }
 {
     match seek(words, vrid) {
         Found::At(place) => Told::Of(load(words, place)),

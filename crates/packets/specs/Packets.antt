@@ -10,10 +10,10 @@ use Rattle.judging.specs.Judging.{judgedOf}
 use Rattle.states.specs.declared.step.Event.the-variants.{Packet}
 use Rattle.states.specs.declared.step.Outcome.{Outcome}
 use Rattle.states.specs.Step.{stepOf}
-use Rattle.router.specs.Accept.{routerRefusal, refusedOf, acceptedOf}
+use Rattle.router.specs.Accept.{routerRefusal, acceptedOf}
 use Rattle.places.specs.declared.place.Found.{Found}
 use Rattle.places.specs.declared.place.Found.the-variants.{At, Nothing}
-use Rattle.places.specs.Place.{primaryOf, recordAt, setRecord, countRefusal}
+use Rattle.places.specs.Place.{primaryOf, recordAt, countRefusal, countAtPlace}
 use Rattle.events.specs.Lists.{listAt, theirList, listsMatch}
 use Rattle.events.specs.Result.{Result, refuses, routerPlace, actedOf}
 
@@ -34,8 +34,7 @@ heardAt words lists place packet fields room =
     cond (eqb (refusalAt words lists place packet fields) 0)
     (actedOf words lists place (acceptedAt words place fields) 0 room)
     (refuses (refusalAt words lists place packet fields)
-    (setRecord words place (refusedOf (recordAt words place) (refusalAt words lists place packet fields)))
-    room)
+    (countAtPlace words place (refusalAt words lists place packet fields)) room)
 
 -- "9 VRID not in the table"
 abbrev pub soughtAt : Found → List ℕ → List ℕ → List ℕ → Fields → List ℕ → Result

@@ -1,5 +1,6 @@
 // A packet that the host hands over.
 use events::acting::act;
+use events::acting::change;
 use events::acting::seek;
 use events::answer::Answered;
 use events::lists::lists_match;
@@ -9,20 +10,21 @@ use judging::judge;
 use places::interface::count_refusal;
 use places::interface::primary;
 use places::place::Found;
+use places::place::count_at_place;
 use places::place::load;
-use places::place::store;
 use router::accept::count_accepted;
 use router::accept::router_refusal;
+use states::record::Turn;
 use states::step::Event;
-use states::step::Outcome;
-use states::step::step;
+use states::step::Writes;
+use states::step::turn;
 ghost use mathlib.Core.Path.{_≡_};
 ghost use Prim.Native.Nat.{_+_, _*_, _≤_, _<_};
 ghost use lib.ListN.{length};
-ghost use Rattle.router.specs.Accept.{refusedOf};
-ghost use Rattle.places.specs.Place.{recordAt, setRecord};
+ghost use Rattle.states.specs.Turn.{turnOf};
 ghost use Rattle.events.specs.Lists.{listAt, theirList, listsMatch};
-ghost use Rattle.events.specs.Result.{Leaves, routerPlace};
+ghost use Rattle.events.specs.Result.{Leaves, routerPlace, actedOf};
+ghost use Rattle.events.specs.Turned.{isSilent};
 ghost use Rattle.packets.specs.Packets.{refusalAt, acceptedAt, heardAt, soughtAt, heardOf};
 
 // Whether a packet lists the addresses of a place.
@@ -50,23 +52,48 @@ fn refusal_at(words: &[u32], lists: &[u8], place: usize, packet: &[u8], fields: 
     router_refusal(heard, fields, same)
 }
 
-// Counts a refusal of 10 to 13 for the router at a place.
-fn refuse_at(words: &mut [u32], place: usize, number: u32)
-    requires { ⌜ (place < 255) × (length (now words) ≡ 4096) ⌝ }
-    ensures { λ _. ⌜ now (words .exit) ≡ setRecord (now (words .entry)) place
-        (refusedOf (recordAt (now (words .entry)) place) number) ⌝ }
+// Whether nothing is written.
+fn is_silent(writes: Writes) -> bool
+    ensures { λ b. ⌜ b ≡ isSilent writes ⌝ }
 {
-    let counted = router::accept::count_refusal(load(words, place), number);
-    store(words, place, counted)
+    match writes {
+        Writes::Nothing => true,
+        Writes::Advertisement => false,
+        Writes::Farewell => false,
+        Writes::Takeover => false,
+    }
 }
 
-// What an accepted packet comes to for the router at a place.
-fn accepted_at(words: &[u32], place: usize, fields: Fields) -> Outcome
+// What an accepted packet changes of the router at a place.
+fn turn_at(words: &[u32], place: usize, fields: Fields) -> Turn
     requires { ⌜ (place < 255) × (length (now words) ≡ 4096) ⌝ }
-    ensures { λ o. ⌜ o ≡ acceptedAt (now (words .entry)) place fields ⌝ }
+    ensures { λ t. ⌜ t ≡ turnOf (acceptedAt (now (words .entry)) place fields) ⌝ }
 {
     let event = Event::Packet(fields.priority, fields.source);
-    step(count_accepted(load(words, place)), primary(words), event)
+    turn(count_accepted(load(words, place)), primary(words), event)
+}
+
+// The router at a place takes a packet that passed refusals 1 to 13. Most have it write nothing.
+fn accept_at(
+    words: &mut [u32],
+    lists: &[u8],
+    place: usize,
+    fields: Fields,
+    out: &mut [u8],
+) -> Answered
+    requires { ⌜ (place < 255) × (length (now words) ≡ 4096) × (length (now lists) ≡ 16320) ⌝ }
+    ensures { λ r. ⌜ Leaves
+        (actedOf (now (words .entry)) (now (lists .entry)) place (acceptedAt (now (words .entry)) place fields) 0
+        (now (out .entry)))
+        r (now (words .exit)) (now (out .exit)) ⌝ }
+{
+    let changes = turn_at(words, place, fields);
+    let writes = changes.writes;
+    if is_silent(writes) {
+        change(words, place, true, changes);
+        return Answered::Done(0, 0);
+    }
+    act(words, lists, place, true, changes, 0, out)
 }
 
 // The router at a place hears a packet that passed refusals 1 to 9.
@@ -86,11 +113,10 @@ fn hear_at(
 {
     let refusal = refusal_at(words, lists, place, packet, fields);
     if refusal != 0 {
-        refuse_at(words, place, refusal);
+        count_at_place(words, place, refusal);
         return Answered::Refused(refusal);
     }
-    let outcome = accepted_at(words, place, fields);
-    act(words, lists, place, outcome, 0, out)
+    accept_at(words, lists, place, fields, out)
 }
 
 // The router that a judged packet is for hears it; where there is none, that is counted.

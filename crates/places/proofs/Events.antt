@@ -12,7 +12,7 @@ use borrow.Author.Tests.{eqb-true, eqb-false}
 use Rattle.states.specs.declared.record.State.{State}
 use Rattle.states.specs.declared.record.State.the-variants.{Initialize, Backup, Master}
 use Rattle.states.specs.declared.record.Router.{Router}
-use Rattle.states.specs.Step.{stateNumber, counted}
+use Rattle.states.specs.Step.{stateNumber, counted, withState}
 use Rattle.states.proofs.Kept.{Kept}
 use Rattle.places.specs.Layout.{stateOf, decodeOf}
 use Rattle.places.specs.Place.{baseOf, recordAt, stateWord, setEvent, routerWord, countAtPlace}
@@ -133,23 +133,56 @@ module _ (words : List ℕ) (p : ℕ) (r : Router) where
             → getD (take 16 (drop (baseOf p) (setEvent words p r))) k 0 ≡ getD (take 16 (drop (baseOf p) words)) k 0
         same k h = read k (h .0) ∙ kept-word k (h .1) (h .2) (h .3) (h .4) ∙ sym (part-word words p k (h .0))
 
--- storing the router that stands there changes nothing
-pub event-same : (words : List ℕ) (p : ℕ) → setEvent words p (recordAt words p) ≡ words
+-- the words of the state and of the timer
+pub timer-is : (words : List ℕ) (p : ℕ) → recordAt words p .timer ≡ getD words (baseOf p + 5) 0
+unfolding recordAt decodeOf
+timer-is words p = part-word words p 5 (omega arith)
+
+state-is : (words : List ℕ) (p : ℕ) → recordAt words p .state ≡ stateOf (getD words (baseOf p + 4) 0)
+unfolding recordAt decodeOf
+state-is words p = ap stateOf (part-word words p 4 (omega arith))
+
+-- Initialize is 0, and no other word is
+zero-test : (a b : Bool) (word : ℕ) → eqb word 0 ≡ a → eqb word 1 ≡ b
+    → eqb word 0 ≡ eqb (stateNumber (cond a Initialize (cond b Backup Master))) 0
+zero-test true b word x y = x
+zero-test false true word x y = x
+zero-test false false word x y = x
+
+pub idle-word : (words : List ℕ) (p : ℕ) → eqb (getD words (baseOf p + 4) 0) 0 ≡ eqb (stateNumber (recordAt words p .state)) 0
+idle-word words p =
+    let word = getD words (baseOf p + 4) 0 in
+    zero-test (eqb word 0) (eqb word 1) word refl refl ∙ ap (λ (s : State). eqb (stateNumber s) 0) (sym (state-is words p))
+
+-- the word of the timer alone, where nothing else changes
+pub timer-event : (words : List ℕ) (p t : ℕ)
+    → set words (baseOf p + 5) t ≡ setEvent words p (withState (recordAt words p) (recordAt words p .state) t)
 unfolding setEvent recordAt decodeOf
-event-same words p =
-    rw (
+timer-event words p t =
+    let word = getD words (baseOf p + 4) 0 in
+    let stored = set words (baseOf p + 5) t in
+    let kept = same-test (eqb (stateNumber (stateOf word)) (stateNumber (stateOf word))) word refl in
+    let accepted = getD-set-other words (baseOf p + 5) (baseOf p + 7) t 0 (λ z. omega arith) in
+    let became = getD-set-other words (baseOf p + 5) (baseOf p + 8) t 0 (λ z. omega arith) in
+    sym
+    (rw (
       part-word words p 4 (omega arith),
-      part-word words p 5 (omega arith),
       part-word words p 7 (omega arith),
       part-word words p 8 (omega arith),
-      same-test (eqb (stateNumber (stateOf (getD words (baseOf p + 4) 0))) (stateNumber (stateOf (getD words (baseOf p + 4) 0))))
-          (getD words (baseOf p + 4) 0)
-          refl,
+      kept,
       set-same words (baseOf p + 4),
-      set-same words (baseOf p + 5),
-      set-same words (baseOf p + 7),
-      set-same words (baseOf p + 8),
-    )
+      ← accepted,
+      set-same stored (baseOf p + 7),
+      ← became,
+      set-same stored (baseOf p + 8),
+    ))
+
+-- storing the router that stands there changes nothing
+pub event-same : (words : List ℕ) (p : ℕ) → setEvent words p (recordAt words p) ≡ words
+event-same words p =
+    sym (timer-event words p (recordAt words p .timer))
+    ∙ ap (set words (baseOf p + 5)) (timer-is words p)
+    ∙ set-same words (baseOf p + 5)
 
 -- a refusal of 10 to 13 is counted by one word of the place
 module _ (words : List ℕ) (p number : ℕ) (least : 10 ≤ number) (most : number ≤ 13) where

@@ -7,8 +7,10 @@ use states::record::State;
 use states::step::state_number;
 ghost use mathlib.Core.Path.{_≡_};
 ghost use Prim.Native.Nat.{_+_, _≤_, _<_};
+ghost use lib.Dec.{eqb};
 ghost use lib.ListN.{length};
 ghost use lib.Seq.{paste};
+ghost use Rattle.states.specs.Step.{stateNumber, withState};
 ghost use Rattle.places.specs.Place.{recordAt, setRecord, stateWord, setEvent, countAtPlace, placeOf};
 
 pub enum Found {
@@ -72,6 +74,31 @@ pub fn store_event(words: &mut [u32], place: usize, r: Router)
     words[start + 5] = r.timer;
     words[start + 7] = counts.accepted;
     words[start + 8] = counts.became;
+}
+
+// Whether the router at a place is in Initialize.
+pub fn is_idle(words: &[u32], place: usize) -> bool
+    requires { ⌜ (place < 255) × (length (now words) ≡ 4096) ⌝ }
+    ensures { λ b. ⌜ b ≡ eqb (stateNumber (recordAt (now (words .entry)) place .state)) 0 ⌝ }
+{
+    words[16 + 16 * place + 4] == 0
+}
+
+// What remains of the timer of the router at a place.
+pub fn timer(words: &[u32], place: usize) -> u32
+    requires { ⌜ (place < 255) × (length (now words) ≡ 4096) ⌝ }
+    ensures { λ t. ⌜ t ≡ recordAt (now (words .entry)) place .timer ⌝ }
+{
+    words[16 + 16 * place + 5]
+}
+
+// The table with another timer for the router at a place.
+pub fn store_timer(words: &mut [u32], place: usize, ticks: u32)
+    requires { ⌜ (place < 255) × (length (now words) ≡ 4096) ⌝ }
+    ensures { λ _. ⌜ now (words .exit) ≡ setEvent (now (words .entry)) place
+        (withState (recordAt (now (words .entry)) place) (recordAt (now (words .entry)) place .state) ticks) ⌝ }
+{
+    words[16 + 16 * place + 5] = ticks;
 }
 
 // The table with a refusal of 10 to 13 counted for the router at a place.
