@@ -10,32 +10,36 @@ use Rattle.states.specs.Step.{stepOf}
 use Rattle.states.specs.Turn.{turnOf, appliedTo}
 use Rattle.states.proofs.Turning.{applied-turn}
 
+-- how it was configured
 pub record Kept (r s : Router) : Type 0 where
   pub vrid : s .vrid ≡ r .vrid
   pub priority : s .priority ≡ r .priority
   pub interval : s .interval ≡ r .interval
   pub preempt : s .preempt ≡ r .preempt
   pub count : s .count ≡ r .count
+
+-- that, and how many packets it refused: all but state, timer, and the counts accepted and became
+pub record Unchanged (r s : Router) : Type 0 where
+  pub kept : Kept r s
   pub owner : s .counts .owner ≡ r .counts .owner
   pub authentication : s .counts .authentication ≡ r .counts .authentication
   pub list-count : s .counts .list ≡ r .counts .list
   pub interval-count : s .counts .interval ≡ r .counts .interval
 
--- whatever changes of state, timer and takeovers
-pub applied-keeps : (r : Router) (t : Turn) → Kept r (appliedTo r t .router)
-applied-keeps r t =
+pub applied-unchanged : (r : Router) (t : Turn) → Unchanged r (appliedTo r t .router)
+applied-unchanged r t =
     record {
-      vrid = refl;
-      priority = refl;
-      interval = refl;
-      preempt = refl;
-      count = refl;
+      kept = record { vrid = refl; priority = refl; interval = refl; preempt = refl; count = refl };
       owner = refl;
       authentication = refl;
       list-count = refl;
       interval-count = refl;
     }
 
+pub step-unchanged : (primary : ℕ) (r : Router) (e : Event) → Unchanged r (stepOf primary r e .router)
+step-unchanged primary r e =
+    subst (λ (o : Outcome). Unchanged r (o .router)) (applied-turn primary r e)
+    (applied-unchanged r (turnOf (stepOf primary r e)))
+
 pub step-keeps : (primary : ℕ) (r : Router) (e : Event) → Kept r (stepOf primary r e .router)
-step-keeps primary r e =
-    subst (λ (o : Outcome). Kept r (o .router)) (applied-turn primary r e) (applied-keeps r (turnOf (stepOf primary r e)))
+step-keeps primary r e = step-unchanged primary r e .kept
