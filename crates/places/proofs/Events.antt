@@ -13,7 +13,7 @@ use Rattle.states.specs.declared.record.State.{State}
 use Rattle.states.specs.declared.record.State.the-variants.{Initialize, Backup, Master}
 use Rattle.states.specs.declared.record.Router.{Router}
 use Rattle.states.specs.Step.{stateNumber, counted, withState}
-use Rattle.states.proofs.Kept.{Kept}
+use Rattle.states.proofs.Kept.{Unchanged}
 use Rattle.places.specs.Layout.{stateOf, decodeOf}
 use Rattle.places.specs.Place.{baseOf, recordAt, stateWord, setEvent, routerWord, countAtPlace}
 use Rattle.places.proofs.Beside.{Beside, beside-then, set-beside, part-word}
@@ -103,26 +103,26 @@ module _ (words : List ℕ) (p : ℕ) (r : Router) where
     became-word = getD-set-same three (baseOf p + 8) _ 0 (omega (arith, three-long))
 
     -- a router that is configured as the one at the place, and whose packets were refused as often, is read back
-    pub event-record : Kept (recordAt words p) r → recordAt (setEvent words p r) p ≡ r
+    pub event-record : Unchanged (recordAt words p) r → recordAt (setEvent words p r) p ≡ r
     unfolding recordAt decodeOf
-    event-record kept =
+    event-record same-as =
         λ z.
         record {
-          vrid = (ap (λ (n : ℕ). n % 256) (same 0 (omega arith)) ∙ sym (kept .vrid)) z;
-          priority = (ap (λ (n : ℕ). n % 256) (same 1 (omega arith)) ∙ sym (kept .priority)) z;
-          interval = (ap (λ (n : ℕ). n % 256) (same 2 (omega arith)) ∙ sym (kept .interval)) z;
-          preempt = (ap (λ (n : ℕ). eqb n 1) (same 3 (omega arith)) ∙ sym (kept .preempt)) z;
+          vrid = (ap (λ (n : ℕ). n % 256) (same 0 (omega arith)) ∙ sym (same-as .kept .vrid)) z;
+          priority = (ap (λ (n : ℕ). n % 256) (same 1 (omega arith)) ∙ sym (same-as .kept .priority)) z;
+          interval = (ap (λ (n : ℕ). n % 256) (same 2 (omega arith)) ∙ sym (same-as .kept .interval)) z;
+          preempt = (ap (λ (n : ℕ). eqb n 1) (same 3 (omega arith)) ∙ sym (same-as .kept .preempt)) z;
           state = (ap stateOf (read 4 (omega arith) ∙ state-word) ∙ state-stored (getD words (baseOf p + 4) 0) (r .state)) z;
           timer = (read 5 (omega arith) ∙ timer-word) z;
-          count = (ap (λ (n : ℕ). n % 17) (same 6 (omega arith)) ∙ sym (kept .count)) z;
+          count = (ap (λ (n : ℕ). n % 17) (same 6 (omega arith)) ∙ sym (same-as .kept .count)) z;
           counts =
               record {
                 accepted = (read 7 (omega arith) ∙ accepted-word) z;
                 became = (read 8 (omega arith) ∙ became-word) z;
-                owner = (same 9 (omega arith) ∙ sym (kept .owner)) z;
-                authentication = (same 10 (omega arith) ∙ sym (kept .authentication)) z;
-                list = (same 11 (omega arith) ∙ sym (kept .list-count)) z;
-                interval = (same 12 (omega arith) ∙ sym (kept .interval-count)) z;
+                owner = (same 9 (omega arith) ∙ sym (same-as .owner)) z;
+                authentication = (same 10 (omega arith) ∙ sym (same-as .authentication)) z;
+                list = (same 11 (omega arith) ∙ sym (same-as .list-count)) z;
+                interval = (same 12 (omega arith) ∙ sym (same-as .interval-count)) z;
               };
         }
       where

@@ -4,7 +4,7 @@ use mathlib.Core.Path.{sym, _∙_}
 use native.Mathlib.Omega.{arith}
 use borrow.Author.Needs.{needs}
 use denote.Ref.{now}
-use Rattle.events.specs.Events.{toldOf}
+use Rattle.events.specs.Events.{askedOf}
 use Rattle.events.proofs.Sought.{sought-below}
 use Rattle.events.proofs.tell.Statement.{statement}
 use Rattle.events.proofs.tell.Tie as tie
@@ -26,17 +26,17 @@ enum-told : tie.Need-enum-told
 enum-told c = search needs
 
 returns : tie.Need-returns
-unfolding toldOf
+unfolding askedOf
 returns c =
     let at-place = c .before .before in
     let sought = sym (at-place .before .before .seek .ensures) ∙ at-place .place .given .1 in
-    rw (sought, c .load .ensures)
+    record { status-is = rw (sought, c .load .ensures); proper = tt }
 
 returns-2 : tie.Need-returns-2
-unfolding toldOf
+unfolding askedOf
 returns-2 c =
     let sought = sym (c .before .before .seek .ensures) ∙ c .enum-told .given .1 in
-    rw sought
+    record { status-is = rw sought; proper = λ z. omega arith }
 
 pub tell-spec : {M : Type 1} → statement M
 tell-spec =

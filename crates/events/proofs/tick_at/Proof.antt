@@ -1,0 +1,82 @@
+-- `events::tick_at` meets its contract.
+-- Assumes nothing.
+use mathlib.Core.Path.{sym, _∙_}
+use native.Mathlib.Omega.{arith}
+use borrow.Author.Needs.{needs}
+use denote.Ref.{now}
+use Rattle.events.proofs.Sought.{leaves-equal}
+use Rattle.events.proofs.Ticking.{clocked-idle, clocked-falls, clocked-fires}
+use Rattle.events.proofs.tick_at.Statement.{statement}
+use Rattle.events.proofs.tick_at.Tie as tie
+
+is-idle-requires : tie.Need-is-idle-requires
+is-idle-requires c κs = search needs
+
+same-length : tie.Need-same-length
+same-length c = search needs
+
+returns : tie.Need-returns
+returns c =
+    let a = c .before .before .before .before .before .before .args in
+    clocked-idle (now (a .words)) (now (a .lists)) (a .place) (a .ticks) (now (a .out))
+    (sym (c .before .is-idle .ensures) ∙ c .if1 .taken)
+
+timer-requires : tie.Need-timer-requires
+timer-requires c κs = search needs
+
+sub-store-timer : tie.Need-sub-store-timer
+sub-store-timer c = search needs
+
+store-timer-requires : tie.Need-store-timer-requires
+store-timer-requires c κs = search needs
+
+same-length-2 : tie.Need-same-length-2
+same-length-2 c = search needs
+
+returns-2 : tie.Need-returns-2
+returns-2 c =
+    let at-timer = c .before .before .before .before .before in
+    let at-idle = at-timer .before .before in
+    let a = at-idle .before .before .before .before .before .before .args in
+    let timer = at-timer .timer .ensures in
+    clocked-falls (now (a .words)) (now (a .lists)) (a .place) (a .ticks) (now (a .out)) _
+    (sym (at-idle .before .is-idle .ensures) ∙ at-idle .if1 .left) (omega arith)
+    (c .before .before .store-timer .ensures ∙ rw timer)
+
+happen-at-requires : tie.Need-happen-at-requires
+happen-at-requires c κs = search needs
+
+same-length-3 : tie.Need-same-length-3
+same-length-3 c = search needs
+
+same-length-4 : tie.Need-same-length-4
+same-length-4 c = search needs
+
+returns-3 : tie.Need-returns-3
+returns-3 c =
+    let at-timer = c .before .before .before .before .before .before .before .before in
+    let at-idle = at-timer .before .before in
+    let a = at-idle .before .before .before .before .before .before .args in
+    let timer = at-timer .timer .ensures in
+    leaves-equal _ _ _ _ _
+    (rw timer
+    (clocked-fires (now (a .words)) (now (a .lists)) (a .place) (a .ticks) (now (a .out))
+    (sym (at-idle .before .is-idle .ensures) ∙ at-idle .if1 .left) (omega arith)))
+    (c .before .before .before .before .happen-at .ensures)
+
+pub tick-at-spec : {M : Type 1} → statement M
+tick-at-spec =
+    tie.close
+    (tie.spec
+    is-idle-requires
+    same-length
+    returns
+    timer-requires
+    sub-store-timer
+    store-timer-requires
+    same-length-2
+    returns-2
+    happen-at-requires
+    same-length-3
+    same-length-4
+    returns-3)

@@ -1,0 +1,22 @@
+-- `events::turn_at` meets its contract.
+-- Assumes nothing.
+use mathlib.Core.Path.{_∙_}
+use borrow.Author.Needs.{needs}
+use Rattle.events.proofs.turn_at.Statement.{statement}
+use Rattle.events.proofs.turn_at.Tie as tie
+
+load-requires : tie.Need-load-requires
+load-requires c κs = search needs
+
+primary-requires : tie.Need-primary-requires
+primary-requires c κs = search needs
+
+turn-requires : tie.Need-turn-requires
+turn-requires c κs = search needs
+
+returns : tie.Need-returns
+returns c =
+    c .turn .ensures ∙ rw (c .before .primary .ensures, c .before .before .load .ensures)
+
+pub turn-at-spec : {M : Type 1} → statement M
+turn-at-spec = tie.close (tie.spec load-requires primary-requires turn-requires returns)
