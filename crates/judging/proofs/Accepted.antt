@@ -7,7 +7,7 @@ use Prim.Native.Nat.{ℕ, _+_, _-_, _*_, _≤_}
 use native.Mathlib.Omega.{arith}
 use lib.Dec.{eqb}
 use lib.ListN.{length, drop, length-drop, length-take}
-use borrow.Author.Tests.{eqb-true}
+use borrow.Author.Tests.{eqb-true, eqb-false}
 use Rattle.judging.specs.declared.Fields.{Fields}
 use Rattle.judging.specs.declared.Judged.the-variants.{Accepted, Refused}
 use Rattle.wire.specs.Check.{Check, firstRefusal}
@@ -47,6 +47,17 @@ unfolding judgedOf
 refused-most packet number f =
     let e = answer-test (eqb (refusalOf packet) 0) packet number refl f in
     omega (arith, packet-most packet)
+
+-- a packet that is refused is refused by 1 or more
+least-test : (t : Bool) (packet : List ℕ) (number : ℕ) → eqb (refusalOf packet) 0 ≡ t
+    → Refused number ≡ cond t (Accepted (fieldsOf packet)) (Refused (refusalOf packet)) → number ≡ 0 → ⊥
+least-test true packet number e f z = let y : _≡_ {A = ℕ} 0 1 = cc in omega arith
+least-test false packet number e f z =
+    let y : refusalOf packet ≡ number = cc in eqb-false (refusalOf packet) 0 e (omega arith)
+
+pub refused-least : (packet : List ℕ) (number : ℕ) → Refused number ≡ judgedOf packet → ¬ (number ≡ 0)
+unfolding judgedOf
+refused-least packet number f = least-test (eqb (refusalOf packet) 0) packet number refl f
 
 fields-test : (t : Bool) (packet : List ℕ) (fields : Fields) → eqb (refusalOf packet) 0 ≡ t
     → Accepted fields ≡ cond t (Accepted (fieldsOf packet)) (Refused (refusalOf packet))
