@@ -5,3 +5,4 @@ pub mod Counted
 pub mod Became
 pub mod Theorems
 pub mod Tallied
+pub mod Rows

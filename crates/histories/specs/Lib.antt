@@ -1,3 +1,4 @@
+pub mod Rows
 pub mod Theorems
 pub mod Histories
 pub mod Counts

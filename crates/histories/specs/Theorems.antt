@@ -1,9 +1,12 @@
--- The theorems of this crate, as statements: each is proved under the same name in proofs/Theorems.antt.
+-- The theorems of this crate, as statements: each is proved under the same name in proofs/Theorems.antt or,
+-- from the answers on, in proofs/Rows.antt.
 use Prim.Native.Nat.{ℕ, _≤_, _<_}
 use mathlib.Core.Path.{_≡_}
-use mathlib.Core.List.{List}
+use mathlib.Core.Logic.{_↔_}
+use mathlib.Core.List.{List, [], _∷_}
 use mathlib.Core.Bool.{Bool}
 use lib.ListN.{length, getD}
+use Rattle.wire.specs.Check.{firstRefusal, Passes}
 use Rattle.judging.specs.declared.Fields.{Fields}
 use Rattle.judging.specs.declared.Judged.the-variants.{Accepted}
 use Rattle.judging.specs.Judging.{judgedOf}
@@ -12,10 +15,13 @@ use Rattle.places.specs.declared.place.Found.the-variants.{At}
 use Rattle.places.specs.Place.{baseOf, recordAt, placeOf}
 use Rattle.events.specs.declared.answer.Answered.{Answered}
 use Rattle.events.specs.Lists.{listAt}
-use Rattle.events.specs.Result.{Result, Leaves, routerPlace}
+use Rattle.events.specs.Result.{Result, Leaves, answerNumber, routerPlace}
 use Rattle.configuring.specs.Configuring.{Configured, configuredWords, configuredLists, Removed, removedWords}
-use Rattle.events.specs.Events.{happenedOf, clockedOf}
+use Rattle.configuring.specs.Configuring.{configureChecks, configureRefusal, removeChecks, removeRefusal}
+use Rattle.events.specs.Events.{happenedOf, clockedOf, toldOf}
 use Rattle.packets.specs.Packets.{heardOf}
+use Rattle.histories.specs.Rows.{recordFor, needs, eventOutcome, eventChecks, clockTicked, clockChecks, questionChecks}
+use Rattle.histories.specs.Rows.{packetOutcome, packetChecks, answerBy, toldBy, toldNumber, OneOf}
 
 -- two outcomes that the promise of a call allows are equal: startup, shutdown, clock and packet
 abbrev pub OneResult : Type 0
@@ -88,3 +94,132 @@ abbrev pub LowestFreePlace : Type 0
 LowestFreePlace =
     (words : List ℕ) (place : ℕ) → placeOf words 0 ≡ At place
     → (place < 255) × Free words place × ((other : ℕ) → other < place → Free words other → ⊥)
+
+-- "A refusal answers its number": the number of a call's answer is that of the first of its checks that fails, 0 where none
+-- does. "Configuring checks 14 to 19 in that order"
+abbrev pub ConfigureAnswers : Type 0
+ConfigureAnswers =
+    (words : List ℕ) (vrid priority interval : ℕ) (addresses : List ℕ)
+    → configureRefusal words vrid priority interval addresses
+    ≡ firstRefusal (configureChecks words vrid priority interval addresses)
+
+-- "remove 20 then 21"
+abbrev pub RemoveAnswers : Type 0
+RemoveAnswers = (words : List ℕ) (vrid : ℕ) → removeRefusal words vrid ≡ firstRefusal (removeChecks words vrid)
+
+-- "others 20 then 22": startup and shutdown
+abbrev pub EventAnswers : Type 0
+EventAnswers =
+    (words lists : List ℕ) (vrid : ℕ) (event : Event) (room : List ℕ)
+    → answerNumber (happenedOf words lists vrid event room .answer) ≡ firstRefusal (eventChecks words vrid event room)
+
+-- a clock step
+abbrev pub ClockAnswers : Type 0
+ClockAnswers =
+    (words lists : List ℕ) (vrid ticks : ℕ) (room : List ℕ)
+    → answerNumber (clockedOf words lists vrid ticks room .answer) ≡ firstRefusal (clockChecks words vrid ticks room)
+
+-- "Packets, checked in this order"; "For a packet 22 comes after 13"
+abbrev pub PacketAnswers : Type 0
+PacketAnswers =
+    (words lists bytes room : List ℕ)
+    → answerNumber (heardOf words lists bytes room .answer) ≡ firstRefusal (packetChecks words lists bytes room)
+
+-- a question
+abbrev pub QuestionAnswers : Type 0
+QuestionAnswers = (words : List ℕ) (vrid : ℕ) → toldNumber (toldOf words vrid) ≡ firstRefusal (questionChecks words vrid)
+
+-- a call is done exactly when every check passes: configuring
+abbrev pub ConfigureExactly : Type 0
+ConfigureExactly =
+    (words : List ℕ) (vrid priority interval : ℕ) (addresses : List ℕ)
+    → (configureRefusal words vrid priority interval addresses ≡ 0)
+    ↔ Passes (configureChecks words vrid priority interval addresses)
+
+-- and removing
+abbrev pub RemoveExactly : Type 0
+RemoveExactly = (words : List ℕ) (vrid : ℕ) → (removeRefusal words vrid ≡ 0) ↔ Passes (removeChecks words vrid)
+
+-- and startup and shutdown
+abbrev pub EventExactly : Type 0
+EventExactly =
+    (words lists : List ℕ) (vrid : ℕ) (event : Event) (room : List ℕ)
+    → (answerNumber (happenedOf words lists vrid event room .answer) ≡ 0) ↔ Passes (eventChecks words vrid event room)
+
+-- and a clock step
+abbrev pub ClockExactly : Type 0
+ClockExactly =
+    (words lists : List ℕ) (vrid ticks : ℕ) (room : List ℕ)
+    → (answerNumber (clockedOf words lists vrid ticks room .answer) ≡ 0) ↔ Passes (clockChecks words vrid ticks room)
+
+-- and a packet
+abbrev pub PacketExactly : Type 0
+PacketExactly =
+    (words lists bytes room : List ℕ)
+    → (answerNumber (heardOf words lists bytes room .answer) ≡ 0) ↔ Passes (packetChecks words lists bytes room)
+
+-- and a question
+abbrev pub QuestionExactly : Type 0
+QuestionExactly = (words : List ℕ) (vrid : ℕ) → (toldNumber (toldOf words vrid) ≡ 0) ↔ Passes (questionChecks words vrid)
+
+-- "22 also with the room needed": the whole answer of startup and shutdown, which leave nothing over
+abbrev pub EventValues : Type 0
+EventValues =
+    (words lists : List ℕ) (vrid : ℕ) (event : Event) (room : List ℕ)
+    → happenedOf words lists vrid event room .answer
+    ≡ answerBy (firstRefusal (eventChecks words vrid event room)) (needs (eventOutcome words vrid event)) 0
+
+-- and of a clock step
+abbrev pub ClockValues : Type 0
+ClockValues =
+    (words lists : List ℕ) (vrid ticks : ℕ) (room : List ℕ)
+    → clockedOf words lists vrid ticks room .answer
+    ≡ answerBy (firstRefusal (clockChecks words vrid ticks room)) (needs (clockTicked words vrid ticks .outcome))
+    (clockTicked words vrid ticks .leftover)
+
+-- and of a packet
+abbrev pub PacketValues : Type 0
+PacketValues =
+    (words lists bytes room : List ℕ)
+    → heardOf words lists bytes room .answer
+    ≡ answerBy (firstRefusal (packetChecks words lists bytes room)) (needs (packetOutcome words bytes)) 0
+
+-- and of a question: the router's record
+abbrev pub QuestionValues : Type 0
+QuestionValues =
+    (words : List ℕ) (vrid : ℕ) → toldOf words vrid ≡ toldBy (firstRefusal (questionChecks words vrid)) (recordFor words vrid)
+
+-- the numbers that a call can answer: configuring
+abbrev pub ConfigureNumbers : Type 0
+ConfigureNumbers =
+    (words : List ℕ) (vrid priority interval : ℕ) (addresses : List ℕ)
+    → OneOf (0 ∷ (14 ∷ (15 ∷ (16 ∷ (17 ∷ (18 ∷ (19 ∷ [])))))))
+    (configureRefusal words vrid priority interval addresses)
+
+-- removing
+abbrev pub RemoveNumbers : Type 0
+RemoveNumbers = (words : List ℕ) (vrid : ℕ) → OneOf (0 ∷ (20 ∷ (21 ∷ []))) (removeRefusal words vrid)
+
+-- startup and shutdown
+abbrev pub EventNumbers : Type 0
+EventNumbers =
+    (words lists : List ℕ) (vrid : ℕ) (event : Event) (room : List ℕ)
+    → OneOf (0 ∷ (20 ∷ (22 ∷ []))) (answerNumber (happenedOf words lists vrid event room .answer))
+
+-- a clock step
+abbrev pub ClockNumbers : Type 0
+ClockNumbers =
+    (words lists : List ℕ) (vrid ticks : ℕ) (room : List ℕ)
+    → OneOf (0 ∷ (20 ∷ (22 ∷ []))) (answerNumber (clockedOf words lists vrid ticks room .answer))
+
+-- a packet
+abbrev pub PacketNumbers : Type 0
+PacketNumbers =
+    (words lists bytes room : List ℕ)
+    → OneOf
+    (0 ∷ (1 ∷ (2 ∷ (3 ∷ (4 ∷ (5 ∷ (6 ∷ (7 ∷ (8 ∷ (9 ∷ (10 ∷ (11 ∷ (12 ∷ (13 ∷ (22 ∷ [])))))))))))))))
+    (answerNumber (heardOf words lists bytes room .answer))
+
+-- a question
+abbrev pub QuestionNumbers : Type 0
+QuestionNumbers = (words : List ℕ) (vrid : ℕ) → OneOf (0 ∷ (20 ∷ [])) (toldNumber (toldOf words vrid))
