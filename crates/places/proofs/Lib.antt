@@ -2,3 +2,4 @@ pub mod Finding
 pub mod Parts
 pub mod Records
 pub mod Words
+pub mod Theorems
