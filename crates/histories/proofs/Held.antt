@@ -12,7 +12,8 @@ use Rattle.states.specs.declared.record.Router.{Router}
 use Rattle.router.specs.Timed.{Timed}
 use Rattle.router.proofs.Kept.{Kept}
 use Rattle.places.specs.Place.{baseOf, recordAt, setRecord, countRefusal}
-use Rattle.places.proofs.Records.{InRange, read-in-range, record-same, record-other, store-length}
+use Rattle.places.specs.Layout.{InRange}
+use Rattle.places.proofs.Records.{read-in-range, record-same, record-other, store-length}
 use Rattle.places.proofs.Words.{first-same, first-other, count-first, count-record, count-length}
 use Rattle.histories.specs.Histories.{Unique, Sound}
 

@@ -26,7 +26,8 @@ use Rattle.places.specs.declared.place.Found.{Found}
 use Rattle.places.specs.declared.place.Found.the-variants.{At, Nothing}
 use Rattle.places.specs.Place.{primaryOf, recordAt, setRecord, placeOf}
 use Rattle.places.proofs.Finding.{found, missing}
-use Rattle.places.proofs.Records.{InRange, read-in-range}
+use Rattle.places.specs.Layout.{InRange}
+use Rattle.places.proofs.Records.{read-in-range}
 use Rattle.events.specs.Result.{Result, routerPlace, actedOf}
 use Rattle.configuring.specs.Configuring.{isFound, placeIn, newRouter, freed, configureChecks, configureRefusal, removeChecks, removeRefusal}
 use Rattle.events.specs.Events.{happenedAt, happenedOf, clockedAt, clockedOf}

@@ -27,7 +27,8 @@ use Rattle.places.specs.declared.place.Found.{Found}
 use Rattle.places.specs.declared.place.Found.the-variants.{At, Nothing}
 use Rattle.places.specs.Place.{primaryOf, recordAt, setRecord, placeOf, countRefusal}
 use Rattle.places.proofs.Finding.{found}
-use Rattle.places.proofs.Records.{InRange, record-same, record-other}
+use Rattle.places.specs.Layout.{InRange}
+use Rattle.places.proofs.Records.{record-same, record-other}
 use Rattle.places.proofs.Words.{count-record}
 use Rattle.events.specs.declared.answer.Answered.the-variants.{Done, Short}
 use Rattle.events.specs.Result.{Result, refuses, answerNumber, routerPlace, actedOf}

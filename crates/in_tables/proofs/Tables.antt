@@ -13,10 +13,10 @@ use Rattle.states.specs.declared.record.Router.{Router}
 use Rattle.states.specs.Step.{counted}
 use Rattle.places.specs.declared.place.Found.{Found}
 use Rattle.places.specs.declared.place.Found.the-variants.{At, Nothing}
-use Rattle.places.specs.Layout.{encodeOf}
+use Rattle.places.specs.Layout.{encodeOf, InRange}
 use Rattle.places.specs.Place.{baseOf, primaryOf, recordAt, setRecord, placeOf, countRefusal}
 use Rattle.places.proofs.Finding.{find-hit}
-use Rattle.places.proofs.Records.{InRange, encode-length, record-same}
+use Rattle.places.proofs.Records.{encode-length, record-same}
 use Rattle.places.proofs.Words.{first-same}
 use Rattle.events.specs.Lists.{listAt}
 use Rattle.events.specs.Result.{routerPlace}

@@ -1,5 +1,5 @@
 // Judging a packet of any length: the first of refusals 1 to 8, or the fields.
-pub mod message; // the VRRP message, refusals 5 to 8
+mod message; // the VRRP message, refusals 5 to 8
 
 use crate::message::message_refusal;
 use headers::header_length;

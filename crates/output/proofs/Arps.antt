@@ -8,7 +8,7 @@ use native.Mathlib.Omega.{arith}
 use lib.ListN.{length, getD, take, drop, length-append}
 use lib.Seq.{drop-cons, take-add, length-take-le}
 use borrow.Rule.Slice.PartMut.{midOf, putMid}
-use Rattle.sums.specs.Total.{numberOf}
+use Rattle.sums.specs.Number.{numberOf}
 use Rattle.wire.specs.Reading.{numberAt}
 use Rattle.writing.specs.Arp.{arpOf}
 use Rattle.writing.specs.Writing.{over}

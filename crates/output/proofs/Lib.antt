@@ -1,3 +1,4 @@
 pub mod Parts
 pub mod Arps
 pub mod Lengths
+pub mod Theorems

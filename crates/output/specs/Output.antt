@@ -1,7 +1,7 @@
 -- What an event has a router write (01, 'State by event' and 'Bytes'). The addresses stand as bytes, four for each.
 use Prim.Native.Nat.{ℕ, _+_, _*_, _/_}
 use mathlib.Core.List.{List, [], _∷_, _++_}
-use Rattle.sums.specs.Total.{numberOf}
+use Rattle.sums.specs.Number.{numberOf}
 use Rattle.writing.specs.Frame.{frameOf}
 use Rattle.writing.specs.Arp.{arpOf}
 use Rattle.states.specs.declared.record.Router.{Router}

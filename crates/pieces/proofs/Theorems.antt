@@ -22,8 +22,11 @@ use Rattle.script.specs.Lines.{Printed, refusedLine, printedOf}
 use Rattle.script.specs.Script.{linesFrom, rehearsalOf}
 use Rattle.script.specs.Progress.{started, exhausted}
 use Rattle.rehearsal.specs.Run.{dueOf, ends, recordStep, stepOf, leftOf, stopsAt, Runs, stops, goes}
-use Rattle.pieces.specs.Theorems.{OneRun, RunDue, RunFalls, RunWithin, Pieces, done, piece, PiecesTogether}
+use Rattle.pieces.specs.Theorems.{OnePrinted, OneRun, RunDue, RunFalls, RunWithin, Pieces, done, piece, PiecesTogether}
 use Rattle.rehearsal.proofs.Stepping.{left-falls, over-long}
+
+pub one-printed : OnePrinted
+one-printed text before a b after other x y = (x .written-is ∙ sym (y .written-is), x .room-is ∙ sym (y .room-is))
 
 -- a run has one text and one end
 never : {A : Type 0} (t : Bool) → t ≡ true → t ≡ false → A

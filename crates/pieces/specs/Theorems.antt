@@ -6,9 +6,16 @@ use mathlib.Core.List.{List, [], _++_}
 use lib.ListN.{length, take}
 use Rattle.script.specs.declared.progress.Progress.{Progress}
 use Rattle.rehearsal.specs.declared.Ran.{Ran}
+use Rattle.script.specs.Lines.{Printed}
 use Rattle.script.specs.Script.{rehearsalOf}
 use Rattle.script.specs.Progress.{started}
 use Rattle.rehearsal.specs.Run.{dueOf, leftOf, RunLeaves}
+
+-- two outcomes that the promise of a line allows are equal
+abbrev pub OnePrinted : Type 0
+OnePrinted =
+    (text before : List ℕ) (a b : ℕ) (after other : List ℕ) → Printed text before a after → Printed text before b other
+    → (a ≡ b) × (after ≡ other)
 
 -- two outcomes that the promise of a run allows are equal
 abbrev pub OneRun : Type 0

@@ -4,3 +4,4 @@ pub mod Records
 pub mod Words
 pub mod Beside
 pub mod Events
+pub mod Theorems

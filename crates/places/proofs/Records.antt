@@ -14,16 +14,9 @@ use Rattle.states.specs.declared.record.State.{State}
 use Rattle.states.specs.declared.record.State.the-variants.{Initialize, Backup, Master}
 use Rattle.states.specs.declared.record.Router.{Router}
 use Rattle.states.specs.Step.{stateNumber}
-use Rattle.places.specs.Layout.{flagOf, stateOf, decodeOf, encodeOf}
+use Rattle.places.specs.Layout.{flagOf, stateOf, decodeOf, encodeOf, InRange}
 use Rattle.places.specs.Place.{baseOf, recordAt, setRecord}
 use Rattle.places.proofs.Parts.{part-same, part-other, apart}
-
--- a record whose bytes are bytes, with at most 16 addresses
-pub record InRange (r : Router) : Type 0 where
-  pub vrid : r .vrid < 256
-  pub priority : r .priority < 256
-  pub interval : r .interval < 256
-  pub count : r .count < 17
 
 flag-back : (b : Bool) → eqb (flagOf b) 1 ≡ b
 flag-back true = refl
@@ -34,7 +27,7 @@ state-back Initialize = refl
 state-back Backup = refl
 state-back Master = refl
 
-decode-encode : (r : Router) → InRange r → decodeOf (encodeOf r) ≡ r
+pub decode-encode : (r : Router) → InRange r → decodeOf (encodeOf r) ≡ r
 unfolding decodeOf encodeOf
 decode-encode r h =
     λ z.
@@ -73,13 +66,18 @@ module _ (words : List ℕ) (place : ℕ) (r : Router) (below : place < 255) (lo
   unfolding setRecord
   store-length = length-paste words (baseOf place) (encodeOf r) 16 (omega arith) (omega (arith, encode-length r)) ∙ long
 
--- whatever the words, a record that is read is in range
-pub read-in-range : (words : List ℕ) (place : ℕ) → InRange (recordAt words place)
-unfolding recordAt decodeOf
-read-in-range words place =
+-- whatever the words, a record that they hold is in range
+pub decode-in-range : (s : List ℕ) → InRange (decodeOf s)
+unfolding decodeOf
+decode-in-range s =
     record {
       vrid = mod-lt _ (omega arith);
       priority = mod-lt _ (omega arith);
       interval = mod-lt _ (omega arith);
       count = mod-lt _ (omega arith);
     }
+
+-- and so is one that is read
+pub read-in-range : (words : List ℕ) (place : ℕ) → InRange (recordAt words place)
+unfolding recordAt
+read-in-range words place = decode-in-range (take 16 (drop (baseOf place) words))

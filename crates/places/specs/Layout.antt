@@ -1,5 +1,5 @@
 -- How a router's record lies in 16 words. Every word decodes, so any memory is a table.
-use Prim.Native.Nat.{ℕ, _%_}
+use Prim.Native.Nat.{ℕ, _%_, _<_}
 use mathlib.Core.List.{List, [], _∷_}
 use mathlib.Core.Bool.{Bool, cond}
 use lib.ListN.{getD}
@@ -59,3 +59,10 @@ encodeOf r =
     ∷ (r .counts .owner
     ∷ (r .counts .authentication
     ∷ (r .counts .list ∷ (r .counts .interval ∷ (0 ∷ (0 ∷ (0 ∷ [])))))))))))))))
+
+-- a record whose bytes are bytes, with at most 16 addresses: "VRID, priority and interval come as bytes"
+pub record InRange (r : Router) : Type 0 where
+  pub vrid : r .vrid < 256
+  pub priority : r .priority < 256
+  pub interval : r .interval < 256
+  pub count : r .count < 17

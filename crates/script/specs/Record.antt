@@ -4,7 +4,7 @@ use mathlib.Core.List.{List, [], _∷_, _++_}
 use mathlib.Core.Bool.{true}
 use lib.Dec.{eqb}
 use lib.ListN.{length, getD, set}
-use Rattle.sums.specs.Total.{numberOf}
+use Rattle.sums.specs.Number.{numberOf}
 use Rattle.wire.specs.Check.{firstRefusal}
 use Rattle.station.specs.declared.station.Station.{Station}
 use Rattle.station.specs.Making.{madeOf}

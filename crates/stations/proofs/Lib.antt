@@ -4,7 +4,7 @@ pub mod Fetching
 pub mod Asking
 pub mod Rows
 pub mod Stepping
-pub mod ListTheorems
+pub mod Theorems
 pub mod Lending
 pub mod OnList
 pub mod Advancing

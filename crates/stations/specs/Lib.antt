@@ -1,2 +1,2 @@
 pub mod List
-pub mod ListTheorems
+pub mod Theorems

@@ -8,7 +8,8 @@ use native.Mathlib.Omega.{arith}
 use lib.ListN.{length, getD, drop, drop-of-length-le}
 use lib.Seq.{drop-cons}
 use Rattle.sums.specs.Sum.{plus, sumOf, Bytes}
-use Rattle.sums.specs.Total.{numberOf, total, folded}
+use Rattle.sums.specs.Number.{numberOf}
+use Rattle.sums.specs.Total.{total, folded}
 use Rattle.sums.proofs.Folding.{folded-zero, folded-small, plus-zero, plus-folded, folded-more}
 
 -- two 16-bit numbers before a folded sum are one 32-bit number

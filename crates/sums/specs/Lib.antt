@@ -1,3 +1,4 @@
 pub mod Sum
+pub mod Number
 pub mod Total
 pub mod Theorems

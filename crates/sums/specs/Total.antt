@@ -1,11 +1,8 @@
 -- The plain sum that the code makes first, and its folding.
 -- Nothing of 01 is here: that the two give the one's complement sum is a law.
-use Prim.Native.Nat.{ℕ, zero, suc, _+_, _*_, _%_}
+use Prim.Native.Nat.{ℕ, zero, suc, _+_, _%_}
 use mathlib.Core.List.{List, [], _∷_}
-
--- four bytes as a 32-bit number, first byte greatest
-abbrev pub numberOf : ℕ → ℕ → ℕ → ℕ → ℕ
-numberOf a b c d = 16777216 * a + 65536 * b + 256 * c + d
+use Rattle.sums.specs.Number.{numberOf}
 
 -- the bytes four by four as 32-bit numbers, zeros after the last, summed with all their carries
 unfoldable pub total : List ℕ → ℕ

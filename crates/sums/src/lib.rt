@@ -3,7 +3,8 @@ ghost use mathlib.Core.Path.{_≡_};
 ghost use Prim.Native.Nat.{_*_, _/_, _%_, _≤_};
 ghost use lib.ListN.{length};
 ghost use Rattle.sums.specs.Sum.{sumOf};
-ghost use Rattle.sums.specs.Total.{numberOf, total, folded};
+ghost use Rattle.sums.specs.Number.{numberOf};
+ghost use Rattle.sums.specs.Total.{total, folded};
 
 // Four bytes as a 32-bit number, first byte greatest.
 pub fn number(a: u8, b: u8, c: u8, d: u8) -> u32

@@ -1,3 +1,4 @@
 pub mod Appending
 pub mod Spelling
 pub mod Worked
+pub mod Theorems

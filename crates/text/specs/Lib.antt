@@ -1,2 +1,3 @@
 pub mod Appended
 pub mod Digits
+pub mod Theorems

@@ -55,7 +55,7 @@ pub fn put_next(out: &mut [u8], at: usize, number: u64) -> usize
 }
 
 // Puts four bytes as a dotted address, as much as fits.
-pub fn put_dotted(out: &mut [u8], at: usize, a: u8, b: u8, c: u8, d: u8) -> usize
+fn put_dotted(out: &mut [u8], at: usize, a: u8, b: u8, c: u8, d: u8) -> usize
     ensures { λ r. ⌜ Appended (now (out .entry)) at (dottedOf a b c d) (now (out .exit)) r ⌝ }
 {
     let mut next = put_decimal(out, at, a as u64);
@@ -96,7 +96,7 @@ fn put_hex_byte(out: &mut [u8], at: usize, byte: u8) -> usize
 }
 
 // Puts bytes in hexadecimal, two digits each, as much as fits.
-pub fn put_hex(out: &mut [u8], at: usize, bytes: &[u8]) -> usize
+fn put_hex(out: &mut [u8], at: usize, bytes: &[u8]) -> usize
     ensures { λ r. ⌜ Appended (now (out .entry)) at (hexOf (now (bytes .entry))) (now (out .exit)) r ⌝ }
 {
     let mut next = least(at, out.len());

@@ -2,7 +2,7 @@
 use Prim.Native.Nat.{ℕ, _+_, _*_, _/_, _%_}
 use mathlib.Core.List.{List, [], _∷_}
 use lib.ListN.{getD}
-use Rattle.sums.specs.Total.{numberOf}
+use Rattle.sums.specs.Number.{numberOf}
 
 -- the byte at a place
 abbrev pub byteAt : List ℕ → ℕ → ℕ

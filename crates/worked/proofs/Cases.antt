@@ -6,44 +6,8 @@ use Rattle.writing.specs.Frame.{messageChecksum, messageOf, headerChecksum, hea
 use Rattle.states.specs.Timers.{skewOf, masterDownOf, advertisementIntervalOf}
 use Rattle.states.specs.Step.{stepOf}
 use Rattle.router.specs.Clock.{tickedOf}
-use Rattle.worked.specs.Cases.{Hold, cases}
+use Rattle.worked.specs.Theorems.{CasesHold}
 
-pub cases-hold : Hold cases
+pub cases-hold : CasesHold
 unfolding plus sumOf messageChecksum messageOf headerChecksum headerOf skewOf masterDownOf advertisementIntervalOf stepOf tickedOf
-cases-hold = (
-  refl,
-  (
-    refl,
-    (
-      refl,
-      (
-        refl,
-        (
-          refl,
-          (
-            refl,
-            (
-              refl,
-              (
-                refl,
-                (
-                  refl,
-                  (
-                    refl,
-                    (
-                      refl,
-                      (
-                        refl,
-                        (refl, (refl, (refl, (refl, (refl, tt))))),
-                      ),
-                    ),
-                  ),
-                ),
-              ),
-            ),
-          ),
-        ),
-      ),
-    ),
-  ),
-)
+cases-hold = (refl, (refl, (refl, (refl, (refl, (refl, (refl, (refl, (refl, (refl, (refl, (refl, (refl, (refl, tt))))))))))))))

@@ -10,9 +10,10 @@ use Rattle.states.specs.declared.record.State.the-variants.{Backup, Master}
 use Rattle.states.specs.declared.record.Router.{Router}
 use Rattle.states.specs.declared.step.Event.the-variants.{Packet}
 use Rattle.states.specs.declared.step.Outcome.{Outcome}
+use Rattle.states.specs.declared.step.Writes.the-variants.{Nothing, Takeover}
 use Rattle.router.specs.declared.clock.Ticked.{Ticked}
 use Rattle.states.specs.Timers.{masterDownOf}
-use Rattle.states.specs.Step.{stays, stepOf}
+use Rattle.states.specs.Step.{stepOf}
 use Rattle.router.specs.Clock.{tickedOf}
 
 -- every claim of a list holds
@@ -20,9 +21,9 @@ abbrev pub Hold : List (Type 0) → Type 0
 Hold [] = Unit
 Hold (claim ∷ rest) = claim × Hold rest
 
--- a router with P 100 and A 1, in a state with a timer
-abbrev pub routerAt : State → ℕ → Bool → Router
-routerAt state timer preempt =
+-- a router with P 100 and A 1, in a state with a timer, that became Master so many times
+abbrev pub routerAt : State → ℕ → Bool → ℕ → Router
+routerAt state timer preempt became =
     record {
       vrid = 1;
       priority = 100;
@@ -31,20 +32,32 @@ routerAt state timer preempt =
       state = state;
       timer = timer;
       count = 1;
-      counts = record { accepted = 0; became = 0; owner = 0; authentication = 0; list = 0; interval = 0 };
+      counts = record { accepted = 0; became = became; owner = 0; authentication = 0; list = 0; interval = 0 };
     }
+
+-- Backup with a timer, and nothing is written
+abbrev pub backupAt : ℕ → Bool → Outcome
+backupAt timer preempt = record { router = routerAt Backup timer preempt 0; writes = Nothing }
+
+-- Master with a timer, and nothing is written
+abbrev pub masterAt : ℕ → Outcome
+masterAt timer = record { router = routerAt Master timer true 0; writes = Nothing }
+
+-- "advertise, ARP for each address, timer 256A, Master", which counts
+abbrev pub tookOver : Outcome
+tookOver = record { router = routerAt Master 256 true 1; writes = Takeover }
 
 -- a Backup with its whole master down interval before it, and so many ticks later
 abbrev pub after : ℕ → Ticked
-after ticks = tickedOf 0xC0A8010A (routerAt Backup 924 true) ticks
+after ticks = tickedOf 0xC0A8010A (routerAt Backup 924 true 0) ticks
 
--- 192.168.1.10 as Master hears priority 100 from an address
+-- 192.168.1.10 as Master, with a timer that no rule sets, hears priority 100 from an address
 abbrev pub heardFrom : ℕ → Outcome
-heardFrom source = stepOf 0xC0A8010A (routerAt Master 256 true) (Packet 100 source)
+heardFrom source = stepOf 0xC0A8010A (routerAt Master 200 true 0) (Packet 100 source)
 
--- a Backup with one tick left hears priority 1
+-- a Backup with a timer that no rule sets hears priority 1
 abbrev pub hearsOne : Bool → Outcome
-hearsOne preempt = stepOf 0xC0A8010A (routerAt Backup 1 preempt) (Packet 1 0xC0A80109)
+hearsOne preempt = stepOf 0xC0A8010A (routerAt Backup 500 preempt 0) (Packet 1 0xC0A80109)
 
 -- 192.168.1.254
 abbrev pub address : List ℕ
@@ -58,11 +71,10 @@ timeCases =
     ∷ ((masterDownOf 100 5 ≡ 3996)
     ∷ ((masterDownOf 100 1 ≡ 924)
     -- "a step of 923 leaves 1"
-    ∷ ((after 923 .outcome .router .timer ≡ 1)
-    ∷ ((after 923 .outcome .router .state ≡ Backup)
+    ∷ ((after 923 ≡ record { outcome = backupAt 1 true; leftover = 0 })
     -- "924 fires with leftover 0, 930 fires with leftover 6"
-    ∷ ((after 924 .outcome .router .state ≡ Master)
-    ∷ ((after 924 .leftover ≡ 0) ∷ ((after 930 .outcome .router .state ≡ Master) ∷ ((after 930 .leftover ≡ 6) ∷ []))))))))
+    ∷ ((after 924 ≡ record { outcome = tookOver; leftover = 0 })
+    ∷ ((after 930 ≡ record { outcome = tookOver; leftover = 6 }) ∷ [])))))
 
 -- what 01 says of bytes
 abbrev pub byteCases : List (Type 0)
@@ -83,11 +95,11 @@ byteCases =
 abbrev pub stateCases : List (Type 0)
 stateCases =
     -- "Master at P 100 and 192.168.1.10: priority 100 from 192.168.1.9 or .10 changes no state or timer; from .11 Backup"
-    (heardFrom 0xC0A80109 ≡ stays (routerAt Master 256 true))
-    ∷ ((heardFrom 0xC0A8010A ≡ stays (routerAt Master 256 true))
-    ∷ ((heardFrom 0xC0A8010B .router .state ≡ Backup)
+    (heardFrom 0xC0A80109 ≡ masterAt 200)
+    ∷ ((heardFrom 0xC0A8010A ≡ masterAt 200)
+    ∷ ((heardFrom 0xC0A8010B ≡ backupAt 924 true)
     -- "Backup, preempt no, P 100, packet priority 1: timer is master down; preempt yes: unchanged"
-    ∷ ((hearsOne false .router .timer ≡ 924) ∷ ((hearsOne true ≡ stays (routerAt Backup 1 true)) ∷ []))))
+    ∷ ((hearsOne false ≡ backupAt 924 false) ∷ ((hearsOne true ≡ backupAt 500 true) ∷ []))))
 
 -- all of them
 abbrev pub cases : List (Type 0)

@@ -6,7 +6,8 @@ use Prim.Native.Nat.{ℕ, _+_, _-_, _/_, _%_, _≤_, _<_}
 use native.Mathlib.Omega.{arith}
 use lib.ListN.{length, replicate}
 use Rattle.sums.specs.Sum.{Bytes, withField}
-use Rattle.sums.specs.Total.{numberOf, total, folded}
+use Rattle.sums.specs.Number.{numberOf}
+use Rattle.sums.specs.Total.{total, folded}
 use Rattle.sums.proofs.Bytes.{bytes-each, bytes-append}
 use Rattle.sums.proofs.Laws.{sum-folded, total-append}
 use Rattle.writing.specs.Frame.{messageStart, messageEnd, messageChecksum, headerStart, headerEnd, headerChecksum}

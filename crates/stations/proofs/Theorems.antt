@@ -1,4 +1,5 @@
--- The theorems that specs/ListTheorems.antt states.
+-- The theorems that specs/Theorems.antt states.
+-- Assumes nothing.
 use Prim.Native.Nat.{ℕ}
 use mathlib.Core.Path.{refl, sym, _∙_}
 use mathlib.Core.Bool.{Bool, true, false, cond}
@@ -9,7 +10,7 @@ use lib.Seq.{getD-set-other}
 use Rattle.station.specs.declared.station.Station.{Station}
 use Rattle.station.specs.Station.{Result}
 use Rattle.stations.specs.List.{nowhere, placed, refusesList, steppedAt, deliveryRefusal, deliveredAt}
-use Rattle.stations.specs.ListTheorems.{OneCall, OnlyAt, StepOnlyAt, DeliveryOnlyAt}
+use Rattle.stations.specs.Theorems.{OneCall, OnlyAt, StepOnlyAt, DeliveryOnlyAt}
 
 pub one-call : OneCall
 one-call result a b stations others room other x y = (

@@ -1,4 +1,4 @@
--- The theorems of the lent list, as statements: each is proved under the same name in proofs/ListTheorems.antt.
+-- The theorems of the lent list, as statements: each is proved under the same name in proofs/Theorems.antt.
 use Prim.Native.Nat.{ℕ}
 use mathlib.Core.Path.{_≡_}
 use mathlib.Core.List.{List}

@@ -1,0 +1,28 @@
+-- The theorems of this crate, as statements: each is proved under the same name in proofs/Theorems.antt.
+use Prim.Native.Nat.{ℕ, _<_}
+use mathlib.Core.Path.{_≡_}
+use mathlib.Core.List.{List}
+use lib.ListN.{length}
+use Rattle.states.specs.declared.record.Router.{Router}
+use Rattle.places.specs.Layout.{decodeOf, encodeOf, InRange}
+use Rattle.places.specs.Place.{recordAt, setRecord}
+
+-- what was encoded decodes to the record
+abbrev pub EncodedDecodes : Type 0
+EncodedDecodes = (r : Router) → InRange r → decodeOf (encodeOf r) ≡ r
+
+-- whatever the words, a decoded record is in range
+abbrev pub DecodedInRange : Type 0
+DecodedInRange = (s : List ℕ) → InRange (decodeOf s)
+
+-- the record that is stored at a place is read back there
+abbrev pub StoredReadsBack : Type 0
+StoredReadsBack =
+    (words : List ℕ) (place : ℕ) (r : Router) → length words ≡ 4096 → place < 255 → InRange r
+    → recordAt (setRecord words place r) place ≡ r
+
+-- every other place keeps its own
+abbrev pub OthersKeepTheirs : Type 0
+OthersKeepTheirs =
+    (words : List ℕ) (place other : ℕ) (r : Router) → length words ≡ 4096 → place < 255 → (other ≡ place → ⊥)
+    → recordAt (setRecord words place r) other ≡ recordAt words other
