@@ -10,14 +10,21 @@ use writing::frame::put_advertisement;
 ghost use mathlib.Core.Path.{_≡_};
 ghost use Prim.Native.Nat.{_-_, _%_};
 ghost use Rattle.passing.specs.Passing.{passed};
-ghost use Rattle.passing.specs.Elapsed.{dueIn, countsIn, firedOf, elapsedOf};
+ghost use Rattle.passing.specs.Elapsed.{runsIn, dueIn, countsIn, firedOf, elapsedOf};
+
+// Whether a timer runs: not in Initialize, nor where no router is there.
+fn runs(own: Router) -> bool
+    ensures { λ r. ⌜ r ≡ runsIn own ⌝ }
+{
+    let state = own.state;
+    (own.vrid != 0) & (state_number(state) != 0)
+}
 
 // Whether the timer fires within so many ticks.
 fn due(own: Router, ticks: u32) -> bool
     ensures { λ r. ⌜ r ≡ dueIn own ticks ⌝ }
 {
-    let state = own.state;
-    state_number(state) != 0 && own.timer <= ticks
+    runs(own) && own.timer <= ticks
 }
 
 // The counts after a fire: a Backup became Master.
@@ -65,8 +72,7 @@ fn fired(own: Router, left: u32) -> Router
 fn elapsed(own: Router, ticks: u32) -> Router
     ensures { λ r. ⌜ r ≡ elapsedOf own ticks ⌝ }
 {
-    let state = own.state;
-    if state_number(state) == 0 {
+    if !runs(own) {
         return own;
     }
     if own.timer <= ticks {
