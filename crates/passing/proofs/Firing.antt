@@ -1,5 +1,6 @@
 -- The fires of a station's timer, taken together: the functions of `passing` cite it.
 --     counts-of-backup, counts-of-other   the counts after a fire, by the state's number
+--     passed-none     nothing passes where there is no router
 --     passed-silent   what passes where the timer does not fire
 --     passed-due      what passes where it does: all fires of the router, and its own advertisement
 -- Assumes nothing.
@@ -146,9 +147,9 @@ module _ (primary : ℕ) (r : Router) where
   ticks-none Master d e = absurd (omega arith)
 
 -- nothing passes where there is no router
-none-passed : (s : Station) (times d : ℕ) → s .router .vrid ≡ 0 → passedIn (suc times) s d ≡ s
-unfolding passedIn clockedBy
-none-passed s times d z = rw (eq-eqb (s .router .vrid) 0 z)
+pub passed-none : (s : Station) (ticks : ℕ) → s .router .vrid ≡ 0 → s ≡ passed s ticks
+unfolding passed passedIn clockedBy
+passed-none s ticks z = rw (eq-eqb (s .router .vrid) 0 z)
 
 module _ (s : Station) (long : length (s .addresses) ≡ 64) (named : ¬ (s .router .vrid ≡ 0)) where
   abbrev state : ℕ
@@ -262,12 +263,9 @@ module _ (s : Station) (long : length (s .addresses) ≡ 64) (named : ¬ (s .rou
       let none : interval ≡ interval - d % interval = omega arith in
       stuck-passed times d (omega arith) ∙ ap (withTimer (after s)) none)
 
-module _ (s : Station) (long : length (s .addresses) ≡ 64) (ticks : ℕ) where
+module _ (s : Station) (long : length (s .addresses) ≡ 64) (named : ¬ (s .router .vrid ≡ 0)) (ticks : ℕ) where
   abbrev timer : ℕ
   timer = s .router .timer
-
-  abbrev nameless : Bool
-  nameless = eqb (s .router .vrid) 0
 
   abbrev stopped : Bool
   stopped = eqb (stateNumber (s .router .state)) 0
@@ -275,25 +273,21 @@ module _ (s : Station) (long : length (s .addresses) ≡ 64) (ticks : ℕ) where
   abbrev elapsed : Station
   elapsed = withRouter s (elapsedOf (s .router) ticks)
 
-  by-tests : (n t u : Bool) → nameless ≡ n → stopped ≡ t → leb timer ticks ≡ u
+  by-tests : (t u : Bool) → stopped ≡ t → leb timer ticks ≡ u
       → cond (dueIn (s .router) ticks) (withFrame elapsed (ownFrame s)) elapsed ≡ passed s ticks
   unfolding dueIn elapsedOf firedOf passed
-  by-tests true t u d e f = rw d (sym (none-passed s (suc ticks) ticks (eqb-true _ 0 d)))
-  by-tests false true u d e f =
-      rw (d, e) (sym (stays-passed s long (eqb-false _ 0 d) (suc ticks) ticks (eqb-true _ 0 e)))
-  by-tests false false false d e f =
-      let named = eqb-false _ 0 d in
-      rw (d, e, f) (sym (falls-passed s long named (suc ticks) ticks (eqb-false _ 0 e) (leb-false timer ticks f)))
-  by-tests false false true d e f =
-      let named = eqb-false _ 0 d in
+  by-tests true u e f = rw e (sym (stays-passed s long named (suc ticks) ticks (eqb-true _ 0 e)))
+  by-tests false false e f =
+      rw (e, f) (sym (falls-passed s long named (suc ticks) ticks (eqb-false _ 0 e) (leb-false timer ticks f)))
+  by-tests false true e f =
       let left = ticks - timer in
       let first = fires-passed s long named (suc ticks) ticks (eqb-false _ 0 e) (leb-true timer ticks f) in
       let more = after-passed s long named (suc ticks) left (omega arith) in
       let all = last-or-more s long named (eqb left 0) left (passedIn (suc ticks) (after s) left) refl more in
-      rw (d, e, f) (sym (first ∙ all))
+      rw (e, f) (sym (first ∙ all))
 
   is-passed : cond (dueIn (s .router) ticks) (withFrame elapsed (ownFrame s)) elapsed ≡ passed s ticks
-  is-passed = by-tests nameless stopped (leb timer ticks) refl refl refl
+  is-passed = by-tests stopped (leb timer ticks) refl refl
 
   -- the code's values: the router, the frame and how long it is
   module _ (router : Router) (frame : List ℕ) (sent : ℕ) (is-router : router ≡ elapsedOf (s .router) ticks) where

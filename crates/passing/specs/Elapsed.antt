@@ -9,13 +9,9 @@ use Rattle.states.specs.declared.record.Router.{Router}
 use Rattle.states.specs.Timers.{advertisementIntervalOf}
 use Rattle.states.specs.Step.{stateNumber, withState, withCounts, becameMaster}
 
--- whether a timer runs: not in Initialize, nor where there is no router
-abbrev pub runsIn : Router → Bool
-runsIn r = not (eqb (r .vrid) 0) && not (eqb (stateNumber (r .state)) 0)
-
--- whether the timer fires within so many ticks
+-- whether the timer fires within so many ticks; in Initialize none runs
 unfoldable pub dueIn : Router → ℕ → Bool
-dueIn r ticks = runsIn r && leb (r .timer) ticks
+dueIn r ticks = not (eqb (stateNumber (r .state)) 0) && leb (r .timer) ticks
 
 -- the counts after a fire: a Backup became Master
 abbrev pub countsIn : State → Counts → Counts
@@ -32,5 +28,5 @@ firedOf r left =
 -- a router when so many ticks have passed: its timer has fallen, or fired as often as due
 unfoldable pub elapsedOf : Router → ℕ → Router
 elapsedOf r ticks =
-    cond (runsIn r)
-    (cond (leb (r .timer) ticks) (firedOf r (ticks - r .timer)) (withState r (r .state) (r .timer - ticks))) r
+    cond (eqb (stateNumber (r .state)) 0) r
+    (cond (leb (r .timer) ticks) (firedOf r (ticks - r .timer)) (withState r (r .state) (r .timer - ticks)))

@@ -10,21 +10,14 @@ use writing::frame::put_advertisement;
 ghost use mathlib.Core.Path.{_≡_};
 ghost use Prim.Native.Nat.{_-_, _%_};
 ghost use Rattle.passing.specs.Passing.{passed};
-ghost use Rattle.passing.specs.Elapsed.{runsIn, dueIn, countsIn, firedOf, elapsedOf};
-
-// Whether a timer runs: not in Initialize, nor where no router is there.
-fn runs(own: Router) -> bool
-    ensures { λ r. ⌜ r ≡ runsIn own ⌝ }
-{
-    let state = own.state;
-    (own.vrid != 0) & (state_number(state) != 0)
-}
+ghost use Rattle.passing.specs.Elapsed.{dueIn, countsIn, firedOf, elapsedOf};
 
 // Whether the timer fires within so many ticks.
 fn due(own: Router, ticks: u32) -> bool
     ensures { λ r. ⌜ r ≡ dueIn own ticks ⌝ }
 {
-    runs(own) && own.timer <= ticks
+    let state = own.state;
+    state_number(state) != 0 && own.timer <= ticks
 }
 
 // The counts after a fire: a Backup became Master.
@@ -72,7 +65,8 @@ fn fired(own: Router, left: u32) -> Router
 fn elapsed(own: Router, ticks: u32) -> Router
     ensures { λ r. ⌜ r ≡ elapsedOf own ticks ⌝ }
 {
-    if !runs(own) {
+    let state = own.state;
+    if state_number(state) == 0 {
         return own;
     }
     if own.timer <= ticks {
@@ -83,11 +77,15 @@ fn elapsed(own: Router, ticks: u32) -> Router
     after
 }
 
-// Lets so many ticks pass. However often it fires, the frame is its own advertisement, written once.
+// Lets so many ticks pass; nothing passes where no router is there. However often it fires, the frame is its own
+// advertisement, written once.
 pub fn pass(s: Station, ticks: u32) -> Station
     ensures { λ r. ⌜ r ≡ passed s ticks ⌝ }
 {
     let own = s.router;
+    if own.vrid == 0 {
+        return s;
+    }
     let refusals = s.refusals;
     let addresses = s.addresses;
     let mut frame = s.frame;

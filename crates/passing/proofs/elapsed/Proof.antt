@@ -2,17 +2,17 @@
 -- Assumes nothing.
 use mathlib.Core.Path.{_∙_}
 use borrow.Author.Needs.{needs}
-use borrow.Author.Tests.{le-leb, lt-leb, not-true, not-false}
+use borrow.Author.Tests.{eq-eqb, ne-eqb, le-leb, lt-leb}
 use Rattle.passing.specs.Elapsed.{elapsedOf}
 use Rattle.passing.proofs.elapsed.Statement.{statement}
 use Rattle.passing.proofs.elapsed.Tie as tie
 
-runs-requires : tie.Need-runs-requires
-runs-requires c κs = search needs
+state-number-requires : tie.Need-state-number-requires
+state-number-requires c κs = search needs
 
 returns : tie.Need-returns
 unfolding elapsedOf
-returns c = rw (← c .before .runs .ensures, not-true (c .before .runs .result) (c .if1 .taken))
+returns c = rw (← c .before .state-number .ensures .0, eq-eqb _ 0 (c .if1 .taken))
 
 fired-requires : tie.Need-fired-requires
 fired-requires c κs = search needs
@@ -21,8 +21,12 @@ returns-2 : tie.Need-returns-2
 unfolding elapsedOf
 returns-2 c =
     let at-if = c .before .before .before .before in
-    let runs = not-false (at-if .before .runs .result) (at-if .if1 .left) in
-    c .fired .ensures ∙ rw (← at-if .before .runs .ensures, runs, le-leb _ _ (c .before .before .if2 .taken))
+    c .fired .ensures
+    ∙ rw (
+      ← at-if .before .state-number .ensures .0,
+      ne-eqb _ 0 (at-if .if1 .left),
+      le-leb _ _ (c .before .before .if2 .taken),
+    )
 
 sub-after : tie.Need-sub-after
 sub-after c = search needs
@@ -31,10 +35,13 @@ returns-3 : tie.Need-returns-3
 unfolding elapsedOf
 returns-3 c =
     let at-if = c .before .before .before in
-    let runs = not-false (at-if .before .runs .result) (at-if .if1 .left) in
-    rw (← at-if .before .runs .ensures, runs, lt-leb _ _ (c .before .if2 .left))
+    rw (
+      ← at-if .before .state-number .ensures .0,
+      ne-eqb _ 0 (at-if .if1 .left),
+      lt-leb _ _ (c .before .if2 .left),
+    )
 
 pub elapsed-spec : {M : Type 1} → statement M
 elapsed-spec =
     tie.close
-    (tie.spec runs-requires returns fired-requires returns-2 sub-after returns-3)
+    (tie.spec state-number-requires returns fired-requires returns-2 sub-after returns-3)
