@@ -1,6 +1,5 @@
 -- The fires of a station's timer, taken together: the functions of `passing` cite it.
 --     counts-of-backup, counts-of-other   the counts after a fire, by the state's number
---     passed-none     nothing passes where there is no router
 --     passed-silent   what passes where the timer does not fire
 --     passed-due      what passes where it does: all fires of the router, and its own advertisement
 -- Assumes nothing.
@@ -38,7 +37,7 @@ use Rattle.station.specs.Station.{listOf, withRouter, withFrame}
 use Rattle.station.specs.Acting.{writtenBy, neededBy, keptBy, actedBy}
 use Rattle.steps.specs.Steps.{clockedBy}
 use Rattle.passing.specs.Passing.{roomBytes, freshRoom, passedIn, passed}
-use Rattle.passing.specs.Elapsed.{dueIn, countsIn, firedOf, elapsedOf}
+use Rattle.passing.specs.Elapsed.{dueIn, firesIn, countsIn, firedOf, elapsedOf}
 use Rattle.station.proofs.Arrays.{list-length}
 
 pub rest-below : (n m : ℕ) → ¬ (m ≡ 0) → n % m ≤ m
@@ -147,9 +146,9 @@ module _ (primary : ℕ) (r : Router) where
   ticks-none Master d e = absurd (omega arith)
 
 -- nothing passes where there is no router
-pub passed-none : (s : Station) (ticks : ℕ) → s .router .vrid ≡ 0 → s ≡ passed s ticks
-unfolding passed passedIn clockedBy
-passed-none s ticks z = rw (eq-eqb (s .router .vrid) 0 z)
+none-passed : (s : Station) (times d : ℕ) → s .router .vrid ≡ 0 → passedIn (suc times) s d ≡ s
+unfolding passedIn clockedBy
+none-passed s times d z = rw (eq-eqb (s .router .vrid) 0 z)
 
 module _ (s : Station) (long : length (s .addresses) ≡ 64) (named : ¬ (s .router .vrid ≡ 0)) where
   abbrev state : ℕ
@@ -263,9 +262,12 @@ module _ (s : Station) (long : length (s .addresses) ≡ 64) (named : ¬ (s .rou
       let none : interval ≡ interval - d % interval = omega arith in
       stuck-passed times d (omega arith) ∙ ap (withTimer (after s)) none)
 
-module _ (s : Station) (long : length (s .addresses) ≡ 64) (named : ¬ (s .router .vrid ≡ 0)) (ticks : ℕ) where
+module _ (s : Station) (long : length (s .addresses) ≡ 64) (ticks : ℕ) where
   abbrev timer : ℕ
   timer = s .router .timer
+
+  abbrev nameless : Bool
+  nameless = eqb (s .router .vrid) 0
 
   abbrev stopped : Bool
   stopped = eqb (stateNumber (s .router .state)) 0
@@ -273,21 +275,25 @@ module _ (s : Station) (long : length (s .addresses) ≡ 64) (named : ¬ (s .rou
   abbrev elapsed : Station
   elapsed = withRouter s (elapsedOf (s .router) ticks)
 
-  by-tests : (t u : Bool) → stopped ≡ t → leb timer ticks ≡ u
-      → cond (dueIn (s .router) ticks) (withFrame elapsed (ownFrame s)) elapsed ≡ passed s ticks
+  by-tests : (n t u : Bool) → nameless ≡ n → stopped ≡ t → leb timer ticks ≡ u
+      → cond (firesIn (s .router) ticks) (withFrame elapsed (ownFrame s)) elapsed ≡ passed s ticks
   unfolding dueIn elapsedOf firedOf passed
-  by-tests true u e f = rw e (sym (stays-passed s long named (suc ticks) ticks (eqb-true _ 0 e)))
-  by-tests false false e f =
-      rw (e, f) (sym (falls-passed s long named (suc ticks) ticks (eqb-false _ 0 e) (leb-false timer ticks f)))
-  by-tests false true e f =
+  by-tests true t u d e f = rw d (sym (none-passed s (suc ticks) ticks (eqb-true _ 0 d)))
+  by-tests false true u d e f =
+      rw (d, e) (sym (stays-passed s long (eqb-false _ 0 d) (suc ticks) ticks (eqb-true _ 0 e)))
+  by-tests false false false d e f =
+      let named = eqb-false _ 0 d in
+      rw (d, e, f) (sym (falls-passed s long named (suc ticks) ticks (eqb-false _ 0 e) (leb-false timer ticks f)))
+  by-tests false false true d e f =
+      let named = eqb-false _ 0 d in
       let left = ticks - timer in
       let first = fires-passed s long named (suc ticks) ticks (eqb-false _ 0 e) (leb-true timer ticks f) in
       let more = after-passed s long named (suc ticks) left (omega arith) in
       let all = last-or-more s long named (eqb left 0) left (passedIn (suc ticks) (after s) left) refl more in
-      rw (e, f) (sym (first ∙ all))
+      rw (d, e, f) (sym (first ∙ all))
 
-  is-passed : cond (dueIn (s .router) ticks) (withFrame elapsed (ownFrame s)) elapsed ≡ passed s ticks
-  is-passed = by-tests stopped (leb timer ticks) refl refl
+  is-passed : cond (firesIn (s .router) ticks) (withFrame elapsed (ownFrame s)) elapsed ≡ passed s ticks
+  is-passed = by-tests nameless stopped (leb timer ticks) refl refl refl
 
   -- the code's values: the router, the frame and how long it is
   module _ (router : Router) (frame : List ℕ) (sent : ℕ) (is-router : router ≡ elapsedOf (s .router) ticks) where
@@ -302,10 +308,10 @@ module _ (s : Station) (long : length (s .addresses) ≡ 64) (named : ¬ (s .rou
           sent = sent;
         }
 
-    pub passed-silent : dueIn (s .router) ticks ≡ false → frame ≡ s .frame → sent ≡ s .sent → made ≡ passed s ticks
+    pub passed-silent : firesIn (s .router) ticks ≡ false → frame ≡ s .frame → sent ≡ s .sent → made ≡ passed s ticks
     passed-silent due same-frame same-sent = rw (is-router, same-frame, same-sent, ← is-passed, due)
 
-    pub passed-due : dueIn (s .router) ticks ≡ true → frame ≡ over (ownFrame s) (s .frame)
+    pub passed-due : firesIn (s .router) ticks ≡ true → frame ≡ over (ownFrame s) (s .frame)
         → sent ≡ 50 + 4 * (s .router .count % 17) → made ≡ passed s ticks
     passed-due due wrote is-sent =
         let own = s .router in

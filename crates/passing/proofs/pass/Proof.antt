@@ -1,18 +1,15 @@
--- `passing::pass` meets its contract: nothing passes, the frame stays, or the advertisement is written.
+-- `passing::pass` meets its contract: the frame stays, or the advertisement is written.
 -- Assumes nothing.
-use mathlib.Core.Path.{_≡_, sym, ap, _∙_}
+use mathlib.Core.Path.{_≡_, ap, _∙_}
 use Prim.Native.Nat.{ℕ, _+_}
 use mathlib.Core.Logic.{⊎-elim}
 use native.Mathlib.Omega.{arith}
 use borrow.Author.Needs.{needs}
 use lib.ListN.{length}
 use Rattle.station.proofs.Arrays.{array-long, part-is-list, list-length}
-use Rattle.passing.proofs.Firing.{passed-none, passed-silent, passed-due}
+use Rattle.passing.proofs.Firing.{passed-silent, passed-due}
 use Rattle.passing.proofs.pass.Statement.{statement}
 use Rattle.passing.proofs.pass.Tie as tie
-
-returns : tie.Need-returns
-returns c = passed-none _ _ (c .if1 .taken)
 
 due-requires : tie.Need-due-requires
 due-requires c κs = search needs
@@ -28,7 +25,7 @@ part-put-advertisement-start c = search needs
 
 part-put-advertisement-end : tie.Need-part-put-advertisement-end
 part-put-advertisement-end c =
-    let start = c .before .before .before .before .before .before .before .before .before .before in
+    let start = c .before .before .before .before .before .before .before .before .before in
     let long : length (start .args .s .addresses) ≡ 64 =
     array-long (start .args .s .addresses) 64 (start .good .0 .1 .1 .1 .1 .1 .0 .1 .0 .1) in
     search needs
@@ -39,7 +36,7 @@ slice-aggregate-put-advertisement c = search needs
 put-advertisement-requires : tie.Need-put-advertisement-requires
 put-advertisement-requires c κs =
     let at-bytes = c .before .before .before in
-    let start = at-bytes .before .before .before .before .before .before .before .before .before in
+    let start = at-bytes .before .before .before .before .before .before .before .before in
     let s = start .args .s in
     let long : length (s .addresses) ≡ 64 = array-long (s .addresses) 64 (start .good .0 .1 .1 .1 .1 .1 .0 .1 .0 .1) in
     let room : length (s .frame) ≡ 114 = array-long (s .frame) 114 (start .good .0 .1 .1 .1 .1 .1 .1 .0 .1 .0 .1) in
@@ -53,30 +50,26 @@ add-sent c = search needs
 elapsed-requires : tie.Need-elapsed-requires
 elapsed-requires c κs = search needs
 
-returns-2 : tie.Need-returns-2
-returns-2 c =
+returns : tie.Need-returns
+returns c =
     let at-due = c .before .before in
-    let at-if = at-due .before .before .before .before in
-    let named = at-if .if1 .left in
-    let start = at-if .before .before .before in
+    let start = at-due .before .before .before .before .before .before in
     let s = start .args .s in
     let ticks = start .args .ticks in
     let long : length (s .addresses) ≡ 64 = array-long (s .addresses) 64 (start .good .0 .1 .1 .1 .1 .1 .0 .1 .0 .1) in
     ⊎-elim
     (λ w.
     let part = part-is-list s _ (w .1 .ensures .0) in
-    passed-due s long named ticks _ _ _ (c .elapsed .ensures) (sym (at-due .due .ensures) ∙ w .0 .taken)
+    passed-due s long ticks _ _ _ (c .elapsed .ensures) (rw (← at-due .due .ensures) (w .0 .taken))
     (w .7 ∙ w .5 .ensures ∙ rw part) (w .8 ∙ ap (λ (n : ℕ). 50 + n) (w .1 .ensures .0)))
     (λ w.
-    passed-silent s long named ticks _ _ _ (c .elapsed .ensures) (sym (at-due .due .ensures) ∙ w .0 .left) (w .1)
-    (w .2))
-    (c .before .if2 .came)
+    passed-silent s long ticks _ _ _ (c .elapsed .ensures) (rw (← at-due .due .ensures) (w .0 .left)) (w .1) (w .2))
+    (c .before .if1 .came)
 
 pub pass-spec : {M : Type 1} → statement M
 pass-spec =
     tie.close
     (tie.spec
-    returns
     due-requires
     list-bytes-requires
     sub-put-advertisement
@@ -86,4 +79,4 @@ pass-spec =
     put-advertisement-requires
     add-sent
     elapsed-requires
-    returns-2)
+    returns)
