@@ -1,12 +1,12 @@
 -- The ends of handing a packet over to a station.
 -- Assumes nothing.
-use mathlib.Core.Path.{_≡_, refl}
-use mathlib.Core.Bool.{Bool, true, false, cond}
+use mathlib.Core.Path.{_≡_, refl, ap, _∙_}
+use mathlib.Core.Bool.{Bool, true, false, cond, not, _&&_, _||_}
 use mathlib.Core.List.{List}
 use Prim.Native.Nat.{ℕ}
 use native.Mathlib.Omega.{arith}
 use lib.Dec.{eqb}
-use borrow.Author.Tests.{eq-eqb, ne-eqb, eqb-false}
+use borrow.Author.Tests.{ne-eqb, eqb-false}
 use Rattle.judging.specs.declared.Fields.{Fields}
 use Rattle.judging.specs.declared.Judged.the-variants.{Accepted, Refused as JudgedRefused}
 use Rattle.judging.specs.Judging.{refusalOf, fieldsOf, judgedOf}
@@ -15,7 +15,7 @@ use Rattle.router.specs.Accept.{refusedOf}
 use Rattle.events.specs.declared.answer.Answered.the-variants.{Refused}
 use Rattle.station.specs.declared.station.Station.{Station}
 use Rattle.station.specs.declared.station.Stepped.{Stepped}
-use Rattle.station.specs.Station.{Leaves, withRouter}
+use Rattle.station.specs.Station.{Leaves, hasRouter, withRouter}
 use Rattle.station.specs.Acting.{actedBy}
 use Rattle.hearing.specs.Hearing.{refusedBy, refusalBy, acceptedOutcome, acceptedBy, soughtBy, heardBy}
 
@@ -30,6 +30,12 @@ pub refused-least : (packet : List ℕ) (number : ℕ) → JudgedRefused number 
 unfolding judgedOf
 refused-least packet number f = least-test (eqb (refusalOf packet) 0) packet number refl f
 
+-- there is a router and it is this one, unless there is none or it is another
+unless : (none same : Bool) → (not none && same) ≡ not (none || not same)
+unless true same = refl
+unless false true = refl
+unless false false = refl
+
 module _ (s : Station) (packet : List ℕ) (f : Fields) (room : List ℕ) where
   pub heard-refused : (number : ℕ) (station : Station) → number ≡ refusalBy s packet f → ¬ (number ≡ 0)
       → station ≡ withRouter s (refusedOf (s .router) number)
@@ -42,14 +48,21 @@ module _ (s : Station) (packet : List ℕ) (f : Fields) (room : List ℕ) where
       → actedBy s o 0 room ≡ acceptedBy s packet f room
   heard-accepted o e h = rw (e, h)
 
-  pub sought-other : (stepped : Stepped) → ¬ (f .vrid ≡ s .router .vrid) → stepped ≡ refusedBy s 9
+  -- whether a packet is for no router of the station
+  abbrev other : Bool
+  other = eqb (s .router .vrid) 0 || not (eqb (f .vrid) (s .router .vrid))
+
+  is-other : (t : Bool) → other ≡ t → (hasRouter s && eqb (f .vrid) (s .router .vrid)) ≡ not t
+  is-other t e = unless (eqb (s .router .vrid) 0) (eqb (f .vrid) (s .router .vrid)) ∙ ap not e
+
+  pub sought-other : (stepped : Stepped) → other ≡ true → stepped ≡ refusedBy s 9
       → Leaves (soughtBy s packet f room) stepped room
   sought-other stepped n e =
-      let t = ne-eqb (f .vrid) (s .router .vrid) n in
+      let t = is-other true n in
       record { answer-is = rw (t, e); station-is = rw (t, e); room-is = rw t }
 
-  pub sought-ours : f .vrid ≡ s .router .vrid → acceptedBy s packet f room ≡ soughtBy s packet f room
-  sought-ours e = rw (eq-eqb (f .vrid) (s .router .vrid) e)
+  pub sought-ours : other ≡ false → acceptedBy s packet f room ≡ soughtBy s packet f room
+  sought-ours e = rw (is-other false e)
 
 module _ (s : Station) (packet room : List ℕ) where
   pub heard-unfit : (number : ℕ) (stepped : Stepped) → judgedOf packet ≡ JudgedRefused number

@@ -1,7 +1,7 @@
 -- A packet that is handed over to a station (01, 'Refusal numbers', 'Counts').
 use Prim.Native.Nat.{ℕ, _-_}
 use mathlib.Core.List.{List}
-use mathlib.Core.Bool.{cond}
+use mathlib.Core.Bool.{cond, _&&_}
 use lib.Dec.{eqb}
 use lib.ListN.{getD, set}
 use Rattle.judging.specs.declared.Fields.{Fields}
@@ -16,7 +16,7 @@ use Rattle.events.specs.declared.answer.Answered.the-variants.{Refused as CallR
 use Rattle.events.specs.Lists.{theirList, listsMatch}
 use Rattle.station.specs.declared.station.Station.{Station}
 use Rattle.station.specs.declared.station.Stepped.{Stepped}
-use Rattle.station.specs.Station.{Result, refuses, listOf, withRouter, withRefusals}
+use Rattle.station.specs.Station.{Result, refuses, hasRouter, listOf, withRouter, withRefusals}
 use Rattle.station.specs.Acting.{actedBy}
 
 -- "Refusals 1 to 9 add one to that interface count"
@@ -41,10 +41,11 @@ acceptedBy s packet fields room =
     cond (eqb (refusalBy s packet fields) 0) (actedBy s (acceptedOutcome s fields) 0 room)
     (refuses (refusalBy s packet fields) (withRouter s (refusedOf (s .router) (refusalBy s packet fields))) room)
 
--- "9 VRID not in the table"
+-- "9 VRID not in the table": one of another number, and any where there is no router
 abbrev pub soughtBy : Station → List ℕ → Fields → List ℕ → Result
 soughtBy s packet fields room =
-    cond (eqb (fields .vrid) (s .router .vrid)) (acceptedBy s packet fields room) (refuses 9 (countedBy s 9) room)
+    cond (hasRouter s && eqb (fields .vrid) (s .router .vrid)) (acceptedBy s packet fields room)
+    (refuses 9 (countedBy s 9) room)
 
 -- "Packets, checked in this order": 1 to 8 first
 abbrev pub judgedBy : Judged → Station → List ℕ → List ℕ → Result

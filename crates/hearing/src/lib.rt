@@ -77,13 +77,13 @@ fn hear_fields(s: Station, packet: &[u8], fields: Fields, out: &mut [u8]) -> Ste
     act(s, step(count_accepted(own), s.primary, event), 0, out)
 }
 
-// A judged packet: 9 where it is for another virtual router.
+// A judged packet: 9 where it is for another virtual router, or no router is there.
 fn hear_judged(s: Station, packet: &[u8], fields: Fields, out: &mut [u8]) -> Stepped
     requires { ⌜ fields .list + 4 * fields .count ≤ length (now packet) ⌝ }
     ensures { λ r. ⌜ Leaves (soughtBy s (now (packet .entry)) fields (now (out .entry))) r (now (out .exit)) ⌝ }
 {
     let own = s.router;
-    if fields.vrid != own.vrid {
+    if (own.vrid == 0) | (fields.vrid != own.vrid) {
         return refuse(s, 9);
     }
     hear_fields(s, packet, fields, out)

@@ -2,14 +2,14 @@
 -- Assumes nothing.
 use mathlib.Core.Path.{_≡_, refl, sym, ap, _∙_}
 use mathlib.Core.List.{List, _∷_, _++_, append-assoc}
-use mathlib.Core.Bool.{Bool, true, false, cond}
+use mathlib.Core.Bool.{Bool, true, false, cond, not}
 use Prim.Native.Nat.{ℕ, zero, suc, _+_, _/_, _≤_, _<_}
 use native.Mathlib.Nat.{zero-add, suc-add}
 use native.Mathlib.Omega.{arith}
 use lib.Dec.{eqb}
 use lib.ListN.{length, getD, drop, replicate, length-append, length-drop}
 use lib.Seq.{take-all, drop-append-le}
-use borrow.Author.Tests.{eqb-true, eqb-false}
+use borrow.Author.Tests.{ne-eqb, eqb-true, eqb-false}
 use Rattle.states.specs.declared.record.Router.{Router}
 use Rattle.places.specs.declared.place.Found.{Found}
 use Rattle.places.specs.declared.place.Found.the-variants.{At, Nothing}
@@ -22,10 +22,10 @@ use Rattle.events.specs.Result.{answerNumber}
 use Rattle.configuring.specs.Configuring.{emptyOf, newRouter, freed, configureRefusal}
 use Rattle.histories.proofs.Begun.{empty-record, empty-held}
 use Rattle.station.specs.declared.station.Stepped.{Stepped}
-use Rattle.station.specs.Station.{stationOf}
+use Rattle.station.specs.Station.{hasRouter, stationOf}
 use Rattle.station.specs.Making.{stationRefusal, addressesIn, madeOf}
-use Rattle.in_tables.specs.Tables.{wordsOf, listsOf}
-use Rattle.in_tables.specs.Theorems.{MadeInTable, MadeWellFormed}
+use Rattle.in_tables.specs.Tables.{wordsOf, listsOf, WellFormed}
+use Rattle.in_tables.specs.Theorems.{MadeInTable, MadeWellFormed, RefusedStation}
 use Rattle.station.proofs.Made.{made-most, made-named}
 use Rattle.in_tables.proofs.Tables.{store-first}
 
@@ -40,8 +40,8 @@ zeros-behind (suc m) n = ap (λ (l : List ℕ). 0 ∷ l) (zeros-behind m n) ∙ 
 zeros-are : (m n k : ℕ) → m + n ≡ k → zeros m ++ zeros n ≡ zeros k
 zeros-are m n k e = zeros-behind m n ∙ ap zeros e
 
-blank-lists : zeros 64 ++ zeros 16256 ≡ zeros 16320
-blank-lists = zeros-are 64 16256 16320 (omega arith)
+zero-lists : zeros 64 ++ zeros 16256 ≡ zeros 16320
+zero-lists = zeros-are 64 16256 16320 (omega arith)
 
 -- where nothing is refused, the address bytes stand in the first list
 first-list : (addresses : List ℕ) → length addresses ≤ 64
@@ -52,7 +52,7 @@ first-list addresses most =
     let short : n ≤ length (zeros 64) = omega arith in
     let back = drop-append-le n (zeros 64) (zeros 16256) short in
     append-assoc addresses (drop n (zeros 64)) (zeros 16256)
-    ∙ rw (← back, blank-lists, zero-add n, take-all n addresses (omega arith))
+    ∙ rw (← back, zero-lists, zero-add n, take-all n addresses (omega arith))
 
 module _ (primary : ℕ) where
   -- a station with no router is an empty table
@@ -62,6 +62,10 @@ module _ (primary : ℕ) where
       ap (λ (l : List ℕ). primary ∷ l)
       (ap (λ (l : List ℕ). zeros 15 ++ l) (zeros-are 16 4064 4080 (omega arith))
       ∙ zeros-are 15 4080 4095 (omega arith))
+
+  blank-lists : listsOf (stationOf primary freed (zeros 64)) ≡ zeros 16320
+  unfolding listsOf
+  blank-lists = zero-lists
 
   -- every place is free
   free-word : (p : ℕ) → p < 255 → getD (emptyOf primary) (baseOf p) 0 ≡ 0
@@ -120,7 +124,27 @@ module _ (primary : ℕ) (r : Router) (addresses : List ℕ) (number : ℕ) wher
       → listsOf (cond t done undone .station) ≡ cond t (setList (zeros 16320) 0 addresses) (zeros 16320)
   unfolding listsOf
   lists-test true most = first-list addresses (most refl)
-  lists-test false most = blank-lists
+  lists-test false most = blank-lists primary
+
+  -- whether it has a router, and that it is well formed
+  router-test : (t : Bool) → (t ≡ true → ¬ (r .vrid ≡ 0)) → hasRouter (cond t done undone .station) ≡ t
+  router-test true named = ap not (ne-eqb (r .vrid) 0 (named refl))
+  router-test false named = refl
+
+  well-formed-test : (t : Bool) → (t ≡ true → length addresses ≤ 64) → r .vrid < 256 → r .priority < 256
+      → r .interval < 256 → r .count ≡ length addresses / 4 → WellFormed (cond t done undone .station)
+  well-formed-test true most a b c d =
+      let n = length addresses in
+      let few : n ≤ 64 = most refl in
+      record {
+        vrid = a;
+        priority = b;
+        interval = c;
+        count = omega arith;
+        refusals = refl;
+        addresses = omega (arith, length-append addresses (drop n (zeros 64)), length-drop n (zeros 64));
+      }
+  well-formed-test false most a b c d = omega arith
 
 pub made-in-table : MadeInTable
 unfolding madeOf
@@ -136,17 +160,18 @@ made-in-table v priority interval preempt primary addresses =
 
 pub made-well-formed : MadeWellFormed
 unfolding madeOf
-made-well-formed v priority interval preempt primary addresses a b c none =
-    let some = made-named v priority interval preempt primary addresses none in
-    let most = made-most v priority interval preempt primary addresses none in
-    let n = length addresses in
-    rw none
-    (record {
-      named = omega arith;
-      vrid = a;
-      priority = b;
-      interval = c;
-      count = omega arith;
-      refusals = refl;
-      addresses = omega (arith, length-append addresses (drop n (zeros 64)), length-drop n (zeros 64));
-    })
+made-well-formed v priority interval preempt primary addresses a b c =
+    let number = stationRefusal v priority interval addresses in
+    let r = newRouter v priority interval preempt (length addresses / 4) in
+    well-formed-test primary r addresses number (eqb number 0)
+    (λ t. made-most v priority interval preempt primary addresses (eqb-true number 0 t)) a b c refl
+
+pub refused-station : RefusedStation
+unfolding madeOf
+refused-station v priority interval preempt primary addresses =
+    let number = stationRefusal v priority interval addresses in
+    let r = newRouter v priority interval preempt (length addresses / 4) in (
+      router-test primary r addresses number (eqb number 0)
+          (λ t. made-named v priority interval preempt primary addresses (eqb-true number 0 t)),
+      λ refused. rw (ne-eqb number 0 refused) (blank-words primary, blank-lists primary),
+    )

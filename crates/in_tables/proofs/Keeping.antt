@@ -2,7 +2,7 @@
 -- Assumes nothing.
 use mathlib.Core.Path.{_≡_, refl, sym, ap, _∙_}
 use mathlib.Core.List.{List}
-use mathlib.Core.Bool.{Bool, true, false, cond}
+use mathlib.Core.Bool.{Bool, true, false, cond, _&&_}
 use Prim.Native.Nat.{ℕ, _+_, _≤_}
 use native.Mathlib.Omega.{arith}
 use lib.Dec.{eqb, ltb}
@@ -20,10 +20,10 @@ use Rattle.router.specs.Accept.{refusedOf}
 use Rattle.output.proofs.Lengths.{bytes-length}
 use Rattle.events.specs.declared.answer.Answered.the-variants.{Done, Short}
 use Rattle.station.specs.declared.station.Station.{Station}
-use Rattle.station.specs.Station.{Result, refuses, listOf, withRouter, withFrame}
+use Rattle.station.specs.Station.{Result, refuses, hasRouter, listOf, withRouter, withFrame}
 use Rattle.station.specs.Acting.{writtenBy, neededBy, actedBy}
 use Rattle.hearing.specs.Hearing.{countedBy, refusalBy, acceptedOutcome, acceptedBy, judgedBy, heardBy}
-use Rattle.steps.specs.Steps.{happenedTo, clockedBy}
+use Rattle.steps.specs.Steps.{steppedBy, happenedTo, clockedBy}
 use Rattle.in_tables.specs.Latest.{Keeps}
 use Rattle.in_tables.specs.Theorems.{EventKeeps, ClockKeeps, PacketKeeps}
 use Rattle.station.proofs.Acted.{advertisement-fits}
@@ -96,15 +96,18 @@ module _ (s : Station) (o : Outcome) (leftover : ℕ) (room : List ℕ) where
   unfolding actedBy
   acted-keeps = acted-test (ltb (length room) (neededBy s o)) (eqb (neededBy s o) 0) refl
 
+  stepped-keeps : Keeps s (steppedBy s o leftover room)
+  stepped-keeps = either-keeps s (hasRouter s) _ _ acted-keeps (refused-keeps s s 20 room refl refl refl)
+
 pub event-keeps : EventKeeps
 unfolding happenedTo
-event-keeps s event room = acted-keeps s (stepOf (s .primary) (s .router) event) 0 room
+event-keeps s event room = stepped-keeps s (stepOf (s .primary) (s .router) event) 0 room
 
 pub clock-keeps : ClockKeeps
 unfolding clockedBy
 clock-keeps s ticks room =
     let ticked = tickedOf (s .primary) (s .router) ticks in
-    acted-keeps s (ticked .outcome) (ticked .leftover) room
+    stepped-keeps s (ticked .outcome) (ticked .leftover) room
 
 counted-keeps : (s : Station) (number : ℕ) (room : List ℕ) → Keeps s (refuses number (countedBy s number) room)
 unfolding countedBy
@@ -114,7 +117,7 @@ judged-keeps : (j : Judged) (s : Station) (packet room : List ℕ) → Keeps s (
 judged-keeps (Refused number) s packet room = counted-keeps s number room
 judged-keeps (Accepted f) s packet room =
     let number = refusalBy s packet f in
-    either-keeps s (eqb (f .vrid) (s .router .vrid)) (acceptedBy s packet f room) _
+    either-keeps s (hasRouter s && eqb (f .vrid) (s .router .vrid)) (acceptedBy s packet f room) _
     (either-keeps s (eqb number 0) _ _ (acted-keeps s (acceptedOutcome s f) 0 room)
     (refused-keeps s (withRouter s (refusedOf (s .router) number)) number room refl refl refl))
     (counted-keeps s 9 room)

@@ -2,7 +2,7 @@
 -- Assumes nothing.
 use mathlib.Core.Path.{_≡_, refl, ap, _∙_}
 use mathlib.Core.List.{List}
-use mathlib.Core.Bool.{Bool, true, false, cond}
+use mathlib.Core.Bool.{Bool, true, false, cond, _&&_}
 use Prim.Native.Nat.{ℕ, _+_, _-_}
 use native.Mathlib.Omega.{arith}
 use lib.Dec.{eqb, ltb}
@@ -18,10 +18,10 @@ use Rattle.router.specs.Clock.{tickedOf}
 use Rattle.router.specs.Accept.{acceptedOf, refusedOf}
 use Rattle.router.proofs.Kept.{Kept, step-keeps, ticked-keeps}
 use Rattle.station.specs.declared.station.Station.{Station}
-use Rattle.station.specs.Station.{Result, listOf, withRouter, withFrame}
+use Rattle.station.specs.Station.{Result, hasRouter, listOf, withRouter, withFrame}
 use Rattle.station.specs.Acting.{writtenBy, neededBy, actedBy}
 use Rattle.hearing.specs.Hearing.{countedBy, refusalBy, acceptedOutcome, acceptedBy, judgedBy, heardBy}
-use Rattle.steps.specs.Steps.{happenedTo, clockedBy}
+use Rattle.steps.specs.Steps.{steppedBy, happenedTo, clockedBy}
 use Rattle.in_tables.specs.Tables.{WellFormed}
 use Rattle.in_tables.specs.Theorems.{EventStays, ClockStays, PacketStays}
 
@@ -40,7 +40,6 @@ module _ (s : Station) (w : WellFormed s) where
       → after .addresses ≡ s .addresses → WellFormed after
   well-kept after k n a =
       record {
-        named = omega (arith, k .vrid, w .named);
         vrid = omega (arith, k .vrid, w .vrid);
         priority = omega (arith, k .priority, w .priority);
         interval = omega (arith, k .interval, w .interval);
@@ -61,6 +60,10 @@ module _ (s : Station) (w : WellFormed s) where
       either-stays (ltb (length room) (neededBy s o)) _ _ w
       (kept-stays (eqb (neededBy s o) 0) o (take (50 + length (listOf s)) (writtenBy s o)) k)
 
+  stepped-stays : (o : Outcome) (leftover : ℕ) (room : List ℕ) → Kept (s .router) (o .router)
+      → WellFormed (steppedBy s o leftover room .station)
+  stepped-stays o leftover room k = either-stays (hasRouter s) _ _ (acted-stays o leftover room k) w
+
   counted-stays : (number : ℕ) → WellFormed (countedBy s number)
   unfolding countedBy
   counted-stays number =
@@ -73,7 +76,7 @@ module _ (s : Station) (w : WellFormed s) where
       let number = refusalBy s packet f in
       let refused = refusedOf (s .router) number in
       let k = step-keeps (s .primary) (acceptedOf (s .router)) (Packet (f .priority) (f .source)) in
-      either-stays (eqb (f .vrid) (s .router .vrid)) (acceptedBy s packet f room) _
+      either-stays (hasRouter s && eqb (f .vrid) (s .router .vrid)) (acceptedBy s packet f room) _
       (either-stays (eqb number 0) _ _
       (acted-stays (acceptedOutcome s f) 0 room
       (same-kept (s .router) _ (k .vrid) (k .priority) (k .interval) (k .preempt) (k .count)))
@@ -83,13 +86,13 @@ module _ (s : Station) (w : WellFormed s) where
 pub event-stays : EventStays
 unfolding happenedTo
 event-stays s event room w =
-    acted-stays s w (stepOf (s .primary) (s .router) event) 0 room (step-keeps (s .primary) (s .router) event)
+    stepped-stays s w (stepOf (s .primary) (s .router) event) 0 room (step-keeps (s .primary) (s .router) event)
 
 pub clock-stays : ClockStays
 unfolding clockedBy
 clock-stays s ticks room w =
     let ticked = tickedOf (s .primary) (s .router) ticks in
-    acted-stays s w (ticked .outcome) (ticked .leftover) room (ticked-keeps (s .primary) (s .router) ticks)
+    stepped-stays s w (ticked .outcome) (ticked .leftover) room (ticked-keeps (s .primary) (s .router) ticks)
 
 pub packet-stays : PacketStays
 unfolding heardBy

@@ -99,10 +99,10 @@ module _ (s : Station) (w : WellFormed s) where
   primary-is = refl
 
   -- it is found there
-  pub found-first : routerPlace (wordsOf s) (s .router .vrid) ≡ At 0
+  pub found-first : ¬ (s .router .vrid ≡ 0) → routerPlace (wordsOf s) (s .router .vrid) ≡ At 0
   unfolding routerPlace placeOf
-  found-first =
-      rw (ne-eqb (s .router .vrid) 0 (λ z. omega (arith, w .named)))
+  found-first named =
+      rw (ne-eqb (s .router .vrid) 0 named)
       (find-hit (wordsOf s) (s .router .vrid) 0 (omega arith) first-word)
 
   free-word : (p : ℕ) → p < 254 → getD (wordsOf s) (baseOf (suc p)) 0 ≡ 0
@@ -113,12 +113,12 @@ module _ (s : Station) (w : WellFormed s) where
       ∙ zero-behind (interfaceOf s) (encodeOf (s .router)) 16 16 4064 (16 * p) (interface-length s (w .refusals))
       (encode-length (s .router)) (omega arith)
 
-  -- and no other is found
-  no-other : (v p : ℕ) → ¬ (v ≡ s .router .vrid) → p < 255 → getD (wordsOf s) (baseOf p) 0 ≡ v → v ≡ 0
-  no-other v zero n h e = absurd (n (sym e ∙ first-word))
+  -- and no other is found, nor any where there is none
+  no-other : (v p : ℕ) → (v ≡ s .router .vrid → v ≡ 0) → p < 255 → getD (wordsOf s) (baseOf p) 0 ≡ v → v ≡ 0
+  no-other v zero n h e = n (sym e ∙ first-word)
   no-other v (suc p) n h e = sym e ∙ free-word p (omega arith)
 
-  pub nothing-else : (f : Found) (v : ℕ) → ¬ (v ≡ s .router .vrid) → routerPlace (wordsOf s) v ≡ f → f ≡ Nothing
+  pub nothing-else : (f : Found) (v : ℕ) → (v ≡ s .router .vrid → v ≡ 0) → routerPlace (wordsOf s) v ≡ f → f ≡ Nothing
   nothing-else Nothing v n e = refl
   nothing-else (At p) v n e =
       let there = sought-word (wordsOf s) v p e in

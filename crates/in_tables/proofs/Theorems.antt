@@ -2,7 +2,7 @@
 -- Assumes nothing.
 use mathlib.Core.Path.{_≡_, refl, sym, ap, _∙_}
 use mathlib.Core.List.{List}
-use mathlib.Core.Bool.{Bool, true, false, cond}
+use mathlib.Core.Bool.{Bool, true, false, cond, not, _&&_}
 use Prim.Native.Nat.{ℕ, _+_, _*_}
 use native.Mathlib.Omega.{arith}
 use lib.Dec.{eqb, ltb}
@@ -19,9 +19,11 @@ use Rattle.states.specs.Step.{stepOf}
 use Rattle.router.specs.Clock.{tickedOf}
 use Rattle.router.specs.Accept.{acceptedOf, refusedOf}
 use Rattle.router.proofs.Kept.{step-keeps, ticked-keeps}
+use Rattle.places.specs.declared.place.Found.{Found}
+use Rattle.places.specs.declared.place.Found.the-variants.{At, Nothing}
 use Rattle.events.specs.Lists.{listAt}
 use Rattle.events.specs.Result.{Result as TableResult, routerPlace, actedOf}
-use Rattle.events.specs.Events.{happenedOf, clockedOf}
+use Rattle.events.specs.Events.{happenedAt, happenedOf, clockedAt, clockedOf}
 use Rattle.packets.specs.Packets.{refusalAt, acceptedAt, heardAt, soughtAt, judgedAt, heardOf}
 use Rattle.station.specs.declared.station.Station.{Station}
 use Rattle.station.specs.Station.{Result, refuses, listOf, packetOf, withRouter, withFrame}
@@ -30,6 +32,7 @@ use Rattle.hearing.specs.Hearing.{countedBy, refusalBy, acceptedOutcome, accept
 use Rattle.steps.specs.Steps.{happenedTo, clockedBy, deliveredTo}
 use Rattle.in_tables.specs.Tables.{wordsOf, listsOf, inTable, WellFormed}
 use Rattle.in_tables.specs.Theorems.{OneStep, EventInTable, ClockInTable, PacketInTable, DeliveryInTable}
+use Rattle.in_tables.specs.Theorems.{NoneInTable}
 use Rattle.station.proofs.Arrays.{list-length}
 use Rattle.hearing.proofs.Heard.{refused-least}
 use Rattle.in_tables.proofs.Tables.{store-first, first-record, primary-is, found-first, nothing-else}
@@ -40,6 +43,9 @@ one-step result a b room other x y =
     let answers = x .answer-is ∙ sym (y .answer-is) in
     let stations = x .station-is ∙ sym (y .station-is) in
     (λ i. record { station = stations i; answer = answers i }, x .room-is ∙ sym (y .room-is))
+
+pub none-in-table : NoneInTable
+none-in-table s v w z = nothing-else s w (routerPlace (wordsOf s) v) v (λ same. same ∙ z) refl
 
 -- whichever of two results is taken, where both are the same in the table
 either-in-table : (t : Bool) (a b : TableResult) (c d : Result) → a ≡ inTable c → b ≡ inTable d
@@ -89,16 +95,24 @@ module _ (s : Station) (w : WellFormed s) where
       )
       (either-in-table (eqb number 0) _ _ _ _ refl refl)
 
-  sought-in-table : (t : Bool) (packet : List ℕ) (f : Fields) (room : List ℕ) → eqb (f .vrid) (s .router .vrid) ≡ t
+  other-in-table : (packet : List ℕ) (f : Fields) (room : List ℕ) → (f .vrid ≡ s .router .vrid → f .vrid ≡ 0)
       → soughtAt (routerPlace (wordsOf s) (f .vrid)) (wordsOf s) (listsOf s) packet f room
-      ≡ inTable (cond t (acceptedBy s packet f room) (refuses 9 (countedBy s 9) room))
-  sought-in-table true packet f room e =
-      let place = ap (routerPlace (wordsOf s)) (eqb-true (f .vrid) (s .router .vrid) e) ∙ found-first s w in
-      rw place (heard-in-table packet f room)
-  sought-in-table false packet f room e =
-      let other = eqb-false (f .vrid) (s .router .vrid) e in
+      ≡ inTable (refuses 9 (countedBy s 9) room)
+  other-in-table packet f room other =
       let place = nothing-else s w (routerPlace (wordsOf s) (f .vrid)) (f .vrid) other refl in
       rw (place, count-first s w 9 (omega arith) (omega arith))
+
+  sought-in-table : (n t : Bool) (packet : List ℕ) (f : Fields) (room : List ℕ) → eqb (s .router .vrid) 0 ≡ n
+      → eqb (f .vrid) (s .router .vrid) ≡ t
+      → soughtAt (routerPlace (wordsOf s) (f .vrid)) (wordsOf s) (listsOf s) packet f room
+      ≡ inTable (cond (not n && t) (acceptedBy s packet f room) (refuses 9 (countedBy s 9) room))
+  sought-in-table true t packet f room d e = other-in-table packet f room (λ same. same ∙ eqb-true (s .router .vrid) 0 d)
+  sought-in-table false true packet f room d e =
+      let named = eqb-false (s .router .vrid) 0 d in
+      let place = ap (routerPlace (wordsOf s)) (eqb-true (f .vrid) (s .router .vrid) e) ∙ found-first s w named in
+      rw place (heard-in-table packet f room)
+  sought-in-table false false packet f room d e =
+      other-in-table packet f room (λ same. absurd (eqb-false (f .vrid) (s .router .vrid) e same))
 
   judged-in-table : (j : Judged) (packet room : List ℕ) → judgedOf packet ≡ j
       → judgedAt j (wordsOf s) (listsOf s) packet room ≡ inTable (judgedBy j s packet room)
@@ -106,22 +120,35 @@ module _ (s : Station) (w : WellFormed s) where
       let least = refused-least packet number (sym e) in
       let most = refused-most packet number (sym e) in
       rw (count-first s w number (omega arith) (omega arith))
-  judged-in-table (Accepted f) packet room e = sought-in-table (eqb (f .vrid) (s .router .vrid)) packet f room refl
+  judged-in-table (Accepted f) packet room e =
+      sought-in-table (eqb (s .router .vrid) 0) (eqb (f .vrid) (s .router .vrid)) packet f room refl refl
+
+  -- a call for the station's router: at the first place, or refused
+  called-in-table : (t : Bool) (call : Found → TableResult) (a b : Result) → eqb (s .router .vrid) 0 ≡ t
+      → call (At 0) ≡ inTable a → call Nothing ≡ inTable b
+      → call (routerPlace (wordsOf s) (s .router .vrid)) ≡ inTable (cond (not t) a b)
+  called-in-table true call a b e x y =
+      ap call (none-in-table s (s .router .vrid) w (eqb-true (s .router .vrid) 0 e)) ∙ y
+  called-in-table false call a b e x y = ap call (found-first s w (eqb-false (s .router .vrid) 0 e)) ∙ x
 
 pub event-in-table : EventInTable
 unfolding happenedOf happenedTo
 event-in-table s event room w =
     let same = step-keeps (s .primary) (s .router) event .count in
-    rw (found-first s w, first-record s w, primary-is s w)
-    (acted-in-table s w (stepOf (s .primary) (s .router) event) 0 room same)
+    called-in-table s w (eqb (s .router .vrid) 0) (λ f. happenedAt f (wordsOf s) (listsOf s) event room) _ _ refl
+    (rw (first-record s w, primary-is s w)
+    (acted-in-table s w (stepOf (s .primary) (s .router) event) 0 room same))
+    refl
 
 pub clock-in-table : ClockInTable
 unfolding clockedOf clockedBy
 clock-in-table s ticks room w =
     let ticked = tickedOf (s .primary) (s .router) ticks in
     let same = ticked-keeps (s .primary) (s .router) ticks .count in
-    rw (found-first s w, first-record s w, primary-is s w)
-    (acted-in-table s w (ticked .outcome) (ticked .leftover) room same)
+    called-in-table s w (eqb (s .router .vrid) 0) (λ f. clockedAt f (wordsOf s) (listsOf s) ticks room) _ _ refl
+    (rw (first-record s w, primary-is s w)
+    (acted-in-table s w (ticked .outcome) (ticked .leftover) room same))
+    refl
 
 pub packet-in-table : PacketInTable
 unfolding heardOf heardBy

@@ -1,5 +1,5 @@
 -- "Each station is a table of one router": that table (01, 'The rehearsal program', 'The table').
-use Prim.Native.Nat.{ℕ, _≤_, _<_}
+use Prim.Native.Nat.{ℕ, _<_}
 use mathlib.Core.Path.{_≡_}
 use mathlib.Core.List.{List, _∷_, _++_}
 use lib.ListN.{length, replicate}
@@ -24,9 +24,9 @@ listsOf s = s .addresses ++ replicate 16256 0
 abbrev pub inTable : Result → TableResult
 inTable r = record { answer = r .answer; words = wordsOf (r .station); room = r .room }
 
--- "virtual router number (VRID) 1 to 255 ..; priority ..; interval A ..; 1 to 16 virtual addresses"
+-- "virtual router number (VRID) 1 to 255 ..; priority ..; interval A ..; 1 to 16 virtual addresses", and 0 where there
+-- is no router
 pub record WellFormed (s : Station) : Type 0 where
-  pub named : 1 ≤ s .router .vrid
   pub vrid : s .router .vrid < 256
   pub priority : s .router .priority < 256
   pub interval : s .router .interval < 256

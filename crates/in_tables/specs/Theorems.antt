@@ -5,6 +5,7 @@ use Prim.Native.Nat.{ℕ, _^_, _<_}
 use mathlib.Core.Path.{_≡_}
 use mathlib.Core.List.{List}
 use mathlib.Core.Bool.{Bool}
+use lib.Dec.{eqb}
 use lib.ListN.{replicate}
 use Rattle.sums.specs.Sum.{Bytes}
 use Rattle.judging.specs.declared.Judged.the-variants.{Accepted}
@@ -12,13 +13,14 @@ use Rattle.judging.specs.Judging.{judgedOf}
 use Rattle.states.specs.declared.step.Event.{Event}
 use Rattle.states.specs.declared.step.Outcome.{Outcome}
 use Rattle.events.specs.Lists.{theirList}
-use Rattle.events.specs.Result.{answerNumber}
+use Rattle.places.specs.declared.place.Found.the-variants.{Nothing}
+use Rattle.events.specs.Result.{answerNumber, routerPlace}
 use Rattle.configuring.specs.Configuring.{emptyOf, configureRefusal, configuredWords, configuredLists}
 use Rattle.events.specs.Events.{happenedOf, clockedOf}
 use Rattle.packets.specs.Packets.{heardOf}
 use Rattle.station.specs.declared.station.Station.{Station}
 use Rattle.station.specs.declared.station.Stepped.{Stepped}
-use Rattle.station.specs.Station.{Result, Leaves, listOf, packetOf}
+use Rattle.station.specs.Station.{Result, Leaves, hasRouter, listOf, packetOf}
 use Rattle.station.specs.Making.{stationRefusal, madeOf}
 use Rattle.station.specs.Acting.{neededBy, keptBy}
 use Rattle.hearing.specs.Hearing.{heardBy}
@@ -56,6 +58,11 @@ DeliveryInTable =
     (from to : Station) (room : List ℕ) → WellFormed to → ¬ (from .sent ≡ 0)
     → heardOf (wordsOf to) (listsOf to) (packetOf from) room ≡ inTable (deliveredTo from to room)
 
+-- "a table of one router", or of none: where the number is 0, no virtual router is found in it
+abbrev pub NoneInTable : Type 0
+NoneInTable =
+    (s : Station) (vrid : ℕ) → WellFormed s → s .router .vrid ≡ 0 → routerPlace (wordsOf s) vrid ≡ Nothing
+
 -- a station just configured is the empty table with that router configured, and is refused by the same number
 abbrev pub MadeInTable : Type 0
 MadeInTable =
@@ -66,6 +73,16 @@ MadeInTable =
     ≡ configuredWords (emptyOf primary) vrid priority interval preempt addresses)
     × (listsOf (madeOf vrid priority interval preempt primary addresses .station)
     ≡ configuredLists (emptyOf primary) (replicate 16320 0) vrid priority interval addresses)
+
+-- it has a router exactly where it was not refused; where it was, it is the empty table
+abbrev pub RefusedStation : Type 0
+RefusedStation =
+    (vrid priority interval : ℕ) (preempt : Bool) (primary : ℕ) (addresses : List ℕ)
+    → (hasRouter (madeOf vrid priority interval preempt primary addresses .station)
+    ≡ eqb (stationRefusal vrid priority interval addresses) 0)
+    × (¬ (stationRefusal vrid priority interval addresses ≡ 0)
+    → (wordsOf (madeOf vrid priority interval preempt primary addresses .station) ≡ emptyOf primary)
+    × (listsOf (madeOf vrid priority interval preempt primary addresses .station) ≡ replicate 16320 0))
 
 -- "the latest advertisement frame of from": startup and shutdown
 abbrev pub EventKeeps : Type 0
@@ -102,9 +119,8 @@ ClockStays = (s : Station) (ticks : ℕ) (room : List ℕ) → WellFormed s → 
 abbrev pub PacketStays : Type 0
 PacketStays = (s : Station) (packet room : List ℕ) → WellFormed s → WellFormed (heardBy s packet room .station)
 
--- and a station that was not refused is well formed from the start: "VRID, priority and interval come as bytes"
+-- and is well formed from the start, refused or not: "VRID, priority and interval come as bytes"
 abbrev pub MadeWellFormed : Type 0
 MadeWellFormed =
     (vrid priority interval : ℕ) (preempt : Bool) (primary : ℕ) (addresses : List ℕ) → vrid < 256 → priority < 256
-    → interval < 256 → stationRefusal vrid priority interval addresses ≡ 0
-    → WellFormed (madeOf vrid priority interval preempt primary addresses .station)
+    → interval < 256 → WellFormed (madeOf vrid priority interval preempt primary addresses .station)

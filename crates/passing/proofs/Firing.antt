@@ -14,7 +14,7 @@ use native.Mathlib.Omega.{arith}
 use lib.Dec.{eqb, leb}
 use lib.ListN.{length, take, drop}
 use lib.Seq.{take-at, take-all, drop-at}
-use borrow.Author.Tests.{lt-ltb, le-ltb, ne-eqb, eqb-true, eqb-false, leb-true, leb-false}
+use borrow.Author.Tests.{lt-ltb, le-ltb, eq-eqb, ne-eqb, eqb-true, eqb-false, leb-true, leb-false}
 use Rattle.writing.specs.Writing.{over}
 use Rattle.writing.specs.Frame.{frameOf}
 use Rattle.states.specs.declared.record.State.{State}
@@ -37,7 +37,7 @@ use Rattle.station.specs.Station.{listOf, withRouter, withFrame}
 use Rattle.station.specs.Acting.{writtenBy, neededBy, keptBy, actedBy}
 use Rattle.steps.specs.Steps.{clockedBy}
 use Rattle.passing.specs.Passing.{roomBytes, freshRoom, passedIn, passed}
-use Rattle.passing.specs.Elapsed.{dueIn, countsIn, firedOf, elapsedOf}
+use Rattle.passing.specs.Elapsed.{dueIn, firesIn, countsIn, firedOf, elapsedOf}
 use Rattle.station.proofs.Arrays.{list-length}
 
 pub rest-below : (n m : ℕ) → ¬ (m ≡ 0) → n % m ≤ m
@@ -145,7 +145,12 @@ module _ (primary : ℕ) (r : Router) where
   ticks-none Backup d e = absurd (omega arith)
   ticks-none Master d e = absurd (omega arith)
 
-module _ (s : Station) (long : length (s .addresses) ≡ 64) where
+-- nothing passes where there is no router
+none-passed : (s : Station) (times d : ℕ) → s .router .vrid ≡ 0 → passedIn (suc times) s d ≡ s
+unfolding passedIn clockedBy
+none-passed s times d z = rw (eq-eqb (s .router .vrid) 0 z)
+
+module _ (s : Station) (long : length (s .addresses) ≡ 64) (named : ¬ (s .router .vrid ≡ 0)) where
   abbrev state : ℕ
   state = stateNumber (s .router .state)
 
@@ -170,7 +175,7 @@ module _ (s : Station) (long : length (s .addresses) ≡ 64) where
       → passedIn (suc times) s d
       ≡ cond (eqb (t .leftover) 0) (keptBy s (t .outcome)) (passedIn times (keptBy s (t .outcome)) (t .leftover))
   unfolding passedIn clockedBy
-  by-clock times d t e = rw (e, acted-whole (t .outcome) (t .leftover))
+  by-clock times d t e = rw (e, ne-eqb (s .router .vrid) 0 named, acted-whole (t .outcome) (t .leftover))
 
   stays-passed : (times d : ℕ) → state ≡ 0 → passedIn (suc times) s d ≡ s
   unfolding tickedOf
@@ -206,7 +211,7 @@ either-is : {a b : Station} (t : Bool) → b ≡ a → cond t a b ≡ a
 either-is true e = refl
 either-is false e = e
 
-module _ (s : Station) (long : length (s .addresses) ≡ 64) where
+module _ (s : Station) (long : length (s .addresses) ≡ 64) (named : ¬ (s .router .vrid ≡ 0)) where
   abbrev interval : ℕ
   interval = advertisementIntervalOf (s .router .interval)
 
@@ -216,7 +221,7 @@ module _ (s : Station) (long : length (s .addresses) ≡ 64) where
   more-fires : (times d : ℕ) → interval ≤ d
       → passedIn (suc times) (after s) d
       ≡ cond (eqb (d - interval) 0) (after s) (passedIn times (after s) (d - interval))
-  more-fires times d h = fires-passed (after s) long times d is-running h ∙ rw (after-again s)
+  more-fires times d h = fires-passed (after s) long named times d is-running h ∙ rw (after-again s)
 
   -- a timer of 0, which no configured station has, fires for ever and changes nothing
   stuck-passed : (times d : ℕ) → interval ≡ 0 → passedIn times (after s) d ≡ after s
@@ -239,7 +244,7 @@ module _ (s : Station) (long : length (s .addresses) ≡ 64) where
       → passedIn times (after s) d ≡ withTimer (after s) (interval - d % interval)
   steady-passed (suc times) d some enough =
       dite (decLt d interval)
-      (λ h. falls-passed (after s) long times d is-running h ∙ rw (mod-eq-of-lt h))
+      (λ h. falls-passed (after s) long named times d is-running h ∙ rw (mod-eq-of-lt h))
       (λ h.
       let most : interval ≤ d = omega arith in
       let left = d - interval in
@@ -261,27 +266,34 @@ module _ (s : Station) (long : length (s .addresses) ≡ 64) (ticks : ℕ) where
   abbrev timer : ℕ
   timer = s .router .timer
 
+  abbrev nameless : Bool
+  nameless = eqb (s .router .vrid) 0
+
   abbrev stopped : Bool
   stopped = eqb (stateNumber (s .router .state)) 0
 
   abbrev elapsed : Station
   elapsed = withRouter s (elapsedOf (s .router) ticks)
 
-  by-tests : (t u : Bool) → stopped ≡ t → leb timer ticks ≡ u
-      → cond (dueIn (s .router) ticks) (withFrame elapsed (ownFrame s)) elapsed ≡ passed s ticks
+  by-tests : (n t u : Bool) → nameless ≡ n → stopped ≡ t → leb timer ticks ≡ u
+      → cond (firesIn (s .router) ticks) (withFrame elapsed (ownFrame s)) elapsed ≡ passed s ticks
   unfolding dueIn elapsedOf firedOf passed
-  by-tests true u e f = rw e (sym (stays-passed s long (suc ticks) ticks (eqb-true _ 0 e)))
-  by-tests false false e f =
-      rw (e, f) (sym (falls-passed s long (suc ticks) ticks (eqb-false _ 0 e) (leb-false timer ticks f)))
-  by-tests false true e f =
+  by-tests true t u d e f = rw d (sym (none-passed s (suc ticks) ticks (eqb-true _ 0 d)))
+  by-tests false true u d e f =
+      rw (d, e) (sym (stays-passed s long (eqb-false _ 0 d) (suc ticks) ticks (eqb-true _ 0 e)))
+  by-tests false false false d e f =
+      let named = eqb-false _ 0 d in
+      rw (d, e, f) (sym (falls-passed s long named (suc ticks) ticks (eqb-false _ 0 e) (leb-false timer ticks f)))
+  by-tests false false true d e f =
+      let named = eqb-false _ 0 d in
       let left = ticks - timer in
-      let first = fires-passed s long (suc ticks) ticks (eqb-false _ 0 e) (leb-true timer ticks f) in
-      let more = after-passed s long (suc ticks) left (omega arith) in
-      let all = last-or-more s long (eqb left 0) left (passedIn (suc ticks) (after s) left) refl more in
-      rw (e, f) (sym (first ∙ all))
+      let first = fires-passed s long named (suc ticks) ticks (eqb-false _ 0 e) (leb-true timer ticks f) in
+      let more = after-passed s long named (suc ticks) left (omega arith) in
+      let all = last-or-more s long named (eqb left 0) left (passedIn (suc ticks) (after s) left) refl more in
+      rw (d, e, f) (sym (first ∙ all))
 
-  is-passed : cond (dueIn (s .router) ticks) (withFrame elapsed (ownFrame s)) elapsed ≡ passed s ticks
-  is-passed = by-tests stopped (leb timer ticks) refl refl
+  is-passed : cond (firesIn (s .router) ticks) (withFrame elapsed (ownFrame s)) elapsed ≡ passed s ticks
+  is-passed = by-tests nameless stopped (leb timer ticks) refl refl refl
 
   -- the code's values: the router, the frame and how long it is
   module _ (router : Router) (frame : List ℕ) (sent : ℕ) (is-router : router ≡ elapsedOf (s .router) ticks) where
@@ -296,10 +308,10 @@ module _ (s : Station) (long : length (s .addresses) ≡ 64) (ticks : ℕ) where
           sent = sent;
         }
 
-    pub passed-silent : dueIn (s .router) ticks ≡ false → frame ≡ s .frame → sent ≡ s .sent → made ≡ passed s ticks
+    pub passed-silent : firesIn (s .router) ticks ≡ false → frame ≡ s .frame → sent ≡ s .sent → made ≡ passed s ticks
     passed-silent due same-frame same-sent = rw (is-router, same-frame, same-sent, ← is-passed, due)
 
-    pub passed-due : dueIn (s .router) ticks ≡ true → frame ≡ over (ownFrame s) (s .frame)
+    pub passed-due : firesIn (s .router) ticks ≡ true → frame ≡ over (ownFrame s) (s .frame)
         → sent ≡ 50 + 4 * (s .router .count % 17) → made ≡ passed s ticks
     passed-due due wrote is-sent =
         let own = s .router in

@@ -1,6 +1,6 @@
 -- How the code computes the time of a station, all fires together: nobody needs to believe it, `passed` is what is promised.
 use Prim.Native.Nat.{ℕ, _-_, _%_}
-use mathlib.Core.Bool.{Bool, cond, not, _&&_}
+use mathlib.Core.Bool.{Bool, cond, not, _&&_, _||_}
 use lib.Dec.{eqb, leb}
 use Rattle.states.specs.declared.record.State.{State}
 use Rattle.states.specs.declared.record.State.the-variants.{Initialize, Backup, Master}
@@ -12,6 +12,10 @@ use Rattle.states.specs.Step.{stateNumber, withState, withCounts, becameMaster}
 -- whether the timer fires within so many ticks; in Initialize none runs
 unfoldable pub dueIn : Router → ℕ → Bool
 dueIn r ticks = not (eqb (stateNumber (r .state)) 0) && leb (r .timer) ticks
+
+-- and whether a station's does, which may have no router
+abbrev pub firesIn : Router → ℕ → Bool
+firesIn r ticks = not (eqb (r .vrid) 0) && dueIn r ticks
 
 -- the counts after a fire: a Backup became Master
 abbrev pub countsIn : State → Counts → Counts
@@ -25,8 +29,8 @@ firedOf r left =
     withState (withCounts r (countsIn (r .state) (r .counts))) Master
     (advertisementIntervalOf (r .interval) - left % advertisementIntervalOf (r .interval))
 
--- a router when so many ticks have passed: its timer has fallen, or fired as often as due
+-- a router when so many ticks have passed: its timer has fallen, or fired as often as due; where none is there, nothing passes
 unfoldable pub elapsedOf : Router → ℕ → Router
 elapsedOf r ticks =
-    cond (eqb (stateNumber (r .state)) 0) r
+    cond (eqb (r .vrid) 0 || eqb (stateNumber (r .state)) 0) r
     (cond (leb (r .timer) ticks) (firedOf r (ticks - r .timer)) (withState r (r .state) (r .timer - ticks)))

@@ -61,12 +61,12 @@ fn fired(own: Router, left: u32) -> Router
     }
 }
 
-// The router when so many ticks have passed.
+// The router when so many ticks have passed; where none is there, nothing passes.
 fn elapsed(own: Router, ticks: u32) -> Router
     ensures { λ r. ⌜ r ≡ elapsedOf own ticks ⌝ }
 {
     let state = own.state;
-    if state_number(state) == 0 {
+    if (own.vrid == 0) | (state_number(state) == 0) {
         return own;
     }
     if own.timer <= ticks {
@@ -86,7 +86,7 @@ pub fn pass(s: Station, ticks: u32) -> Station
     let addresses = s.addresses;
     let mut frame = s.frame;
     let mut sent = s.sent;
-    if due(own, ticks) {
+    if (own.vrid != 0) & due(own, ticks) {
         let end = list_bytes(own);
         put_advertisement(
             own.vrid,

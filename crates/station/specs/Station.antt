@@ -2,6 +2,8 @@
 use Prim.Native.Nat.{ℕ, _*_, _%_}
 use mathlib.Core.Path.{_≡_}
 use mathlib.Core.List.{List}
+use mathlib.Core.Bool.{Bool, not}
+use lib.Dec.{eqb}
 use lib.ListN.{length, take, drop, replicate}
 use Rattle.writing.specs.Writing.{over}
 use Rattle.states.specs.declared.record.Router.{Router}
@@ -24,6 +26,10 @@ pub record Leaves (result : Result) (stepped : Stepped) (room : List ℕ) : Type
 -- "A refusal answers its number": "Output bytes stay untouched"
 abbrev pub refuses : ℕ → Station → List ℕ → Result
 refuses number s room = record { answer = Refused number; station = s; room = room }
+
+-- whether the table of a station has its router: "VRID 1 to 255", so where the number is 0 it is an empty table
+abbrev pub hasRouter : Station → Bool
+hasRouter s = not (eqb (s .router .vrid) 0)
 
 -- the virtual addresses, of which there are at most 16
 unfoldable pub listOf : Station → List ℕ

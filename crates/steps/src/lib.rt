@@ -2,6 +2,7 @@
 use events::answer::Answered;
 use hearing::hear;
 use states::step::Event;
+use states::step::Outcome;
 use states::step::step;
 use station::acting::act;
 use station::station::Station;
@@ -12,38 +13,52 @@ ghost use Prim.Native.Nat.{_≤_};
 ghost use lib.Dec.{ltb};
 ghost use Rattle.states.specs.declared.step.Event.the-variants.{Startup, Shutdown};
 ghost use Rattle.station.specs.Station.{Leaves};
-ghost use Rattle.steps.specs.Steps.{happenedTo, clockedBy, deliveredTo};
+ghost use Rattle.steps.specs.Steps.{steppedBy, happenedTo, clockedBy, deliveredTo};
+
+// What an outcome leaves; refuses by 20 where no router is there, and by 22.
+fn take_step(s: Station, outcome: Outcome, leftover: u32, out: &mut [u8]) -> Stepped
+    ensures { λ r. ⌜ Leaves (steppedBy s outcome leftover (now (out .entry))) r (now (out .exit)) ⌝ }
+{
+    let own = s.router;
+    if own.vrid == 0 {
+        return Stepped {
+            station: s,
+            answer: Answered::Refused(20),
+        };
+    }
+    act(s, outcome, leftover, out)
+}
 
 // One event on a station's router.
 fn happen(s: Station, event: Event, out: &mut [u8]) -> Stepped
     ensures { λ r. ⌜ Leaves (happenedTo s event (now (out .entry))) r (now (out .exit)) ⌝ }
 {
     let own = s.router;
-    act(s, step(own, s.primary, event), 0, out)
+    take_step(s, step(own, s.primary, event), 0, out)
 }
 
-// Starts the router up, or refuses by 22.
+// Starts the router up, or refuses by 20 or 22.
 pub fn startup(s: Station, out: &mut [u8]) -> Stepped
     ensures { λ r. ⌜ Leaves (happenedTo s Startup (now (out .entry))) r (now (out .exit)) ⌝ }
 {
     happen(s, Event::Startup, out)
 }
 
-// Shuts the router down, or refuses by 22.
+// Shuts the router down, or refuses by 20 or 22.
 pub fn shutdown(s: Station, out: &mut [u8]) -> Stepped
     ensures { λ r. ⌜ Leaves (happenedTo s Shutdown (now (out .entry))) r (now (out .exit)) ⌝ }
 {
     happen(s, Event::Shutdown, out)
 }
 
-// Lets so many ticks pass, or refuses by 22.
+// Lets so many ticks pass, or refuses by 20 or 22.
 pub fn clock(s: Station, ticks: u32, out: &mut [u8]) -> Stepped
     ensures { λ r. ⌜ Leaves (clockedBy s ticks (now (out .entry))) r (now (out .exit)) ⌝ }
 {
     let own = s.router;
     let ticked = router::clock::clock(own, s.primary, ticks);
     let outcome = ticked.outcome;
-    act(s, outcome, ticked.leftover, out)
+    take_step(s, outcome, ticked.leftover, out)
 }
 
 // The lesser of two numbers.

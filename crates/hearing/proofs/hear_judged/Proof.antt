@@ -12,7 +12,7 @@ refuse-requires c κs = search needs
 
 returns : tie.Need-returns
 returns c =
-    let a = c .before .before .before .before .before .before .before .args in
+    let a = c .before .before .before .before .before .before .before .before .args in
     sought-other (a .s) (now (a .packet)) (a .fields) (now (a .out)) _ (c .before .if1 .taken) (c .refuse .ensures)
 
 hear-fields-requires : tie.Need-hear-fields-requires
@@ -24,7 +24,7 @@ same-length c = search needs
 returns-2 : tie.Need-returns-2
 returns-2 c =
     let at-hear = c .before .before in
-    let a = at-hear .before .before .before .before .before .before .before .before .args in
+    let a = at-hear .before .before .before .before .before .before .before .before .before .args in
     let ours = at-hear .before .before .if1 .left in
     leaves-equal _ _ (sought-ours (a .s) (now (a .packet)) (a .fields) (now (a .out)) ours)
     (at-hear .hear-fields .ensures)

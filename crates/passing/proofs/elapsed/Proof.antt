@@ -2,7 +2,7 @@
 -- Assumes nothing.
 use mathlib.Core.Path.{_∙_}
 use borrow.Author.Needs.{needs}
-use borrow.Author.Tests.{eq-eqb, ne-eqb, le-leb, lt-leb}
+use borrow.Author.Tests.{le-leb, lt-leb}
 use Rattle.passing.specs.Elapsed.{elapsedOf}
 use Rattle.passing.proofs.elapsed.Statement.{statement}
 use Rattle.passing.proofs.elapsed.Tie as tie
@@ -12,7 +12,7 @@ state-number-requires c κs = search needs
 
 returns : tie.Need-returns
 unfolding elapsedOf
-returns c = rw (← c .before .state-number .ensures .0, eq-eqb _ 0 (c .if1 .taken))
+returns c = rw (← c .before .state-number .ensures .0, c .if1 .taken)
 
 fired-requires : tie.Need-fired-requires
 fired-requires c κs = search needs
@@ -22,11 +22,7 @@ unfolding elapsedOf
 returns-2 c =
     let at-if = c .before .before .before .before in
     c .fired .ensures
-    ∙ rw (
-      ← at-if .before .state-number .ensures .0,
-      ne-eqb _ 0 (at-if .if1 .left),
-      le-leb _ _ (c .before .before .if2 .taken),
-    )
+    ∙ rw (← at-if .before .state-number .ensures .0, at-if .if1 .left, le-leb _ _ (c .before .before .if2 .taken))
 
 sub-after : tie.Need-sub-after
 sub-after c = search needs
@@ -35,11 +31,7 @@ returns-3 : tie.Need-returns-3
 unfolding elapsedOf
 returns-3 c =
     let at-if = c .before .before .before in
-    rw (
-      ← at-if .before .state-number .ensures .0,
-      ne-eqb _ 0 (at-if .if1 .left),
-      lt-leb _ _ (c .before .if2 .left),
-    )
+    rw (← at-if .before .state-number .ensures .0, at-if .if1 .left, lt-leb _ _ (c .before .if2 .left))
 
 pub elapsed-spec : {M : Type 1} → statement M
 elapsed-spec =

@@ -4,8 +4,7 @@ use mathlib.Core.Path.{ap}
 use borrow.Author.Needs.{needs}
 use denote.Ref.{now}
 use Rattle.router.specs.declared.clock.Ticked.{Ticked}
-use Rattle.station.specs.Acting.{actedBy}
-use Rattle.steps.specs.Steps.{clockedBy}
+use Rattle.steps.specs.Steps.{steppedBy, clockedBy}
 use Rattle.station.proofs.Acted.{leaves-equal}
 use Rattle.steps.proofs.clock.Statement.{statement}
 use Rattle.steps.proofs.clock.Tie as tie
@@ -13,8 +12,8 @@ use Rattle.steps.proofs.clock.Tie as tie
 clock-requires : tie.Need-clock-requires
 clock-requires c κs = search needs
 
-act-requires : tie.Need-act-requires
-act-requires c κs = search needs
+take-step-requires : tie.Need-take-step-requires
+take-step-requires c κs = search needs
 
 same-length : tie.Need-same-length
 same-length c = search needs
@@ -22,12 +21,12 @@ same-length c = search needs
 returns : tie.Need-returns
 unfolding clockedBy
 returns c =
-    let at-act = c .before .before in
-    let at-clock = at-act .before .before .before in
+    let at-taken = c .before .before in
+    let at-clock = at-taken .before .before .before in
     let a = at-clock .before .before .before .args in
     leaves-equal _ _
-    (ap (λ (t : Ticked). actedBy (a .s) (t .outcome) (t .leftover) (now (a .out))) (at-clock .clock .ensures))
-    (at-act .act .ensures)
+    (ap (λ (t : Ticked). steppedBy (a .s) (t .outcome) (t .leftover) (now (a .out))) (at-clock .clock .ensures))
+    (at-taken .take-step .ensures)
 
 pub clock-spec : {M : Type 1} → statement M
-clock-spec = tie.close (tie.spec clock-requires act-requires same-length returns)
+clock-spec = tie.close (tie.spec clock-requires take-step-requires same-length returns)
