@@ -67,8 +67,8 @@ rests s =
       latest = λ h. h;
     }
 
-pub joins : {a b c : Station} → Onward a b → Onward b c → Onward a c
-joins {a} {b} {c} x y =
+pub joins : (a b c : Station) → Onward a b → Onward b c → Onward a c
+joins a b c x y =
     let k = x .kept in
     let l = y .kept in
     record {
