@@ -1,6 +1,6 @@
 -- The calls of the table that the steps of a station are.
 -- Assumes nothing.
-use mathlib.Core.Path.{_≡_, refl, sym, ap, _∙_}
+use mathlib.Core.Path.{_≡_, refl, ap, _∙_}
 use mathlib.Core.Bool.{Bool, true, false, cond}
 use mathlib.Core.List.{List, [], _∷_, _++_}
 use Prim.Native.Nat.{ℕ, zero, suc}
@@ -8,7 +8,7 @@ use lib.Dec.{eqb}
 use Rattle.states.specs.declared.step.Event.{Event}
 use Rattle.states.specs.declared.step.Event.the-variants.{Startup, Shutdown}
 use Rattle.events.specs.Result.{Result as TableResult}
-use Rattle.events.specs.Events.{happenedOf, clockedOf}
+use Rattle.events.specs.Events.{happenedOf}
 use Rattle.histories.specs.Histories.{Call, startup, shutdown, clock, packet, Memory, called, after, GivenAll}
 use Rattle.station.specs.declared.station.Station.{Station}
 use Rattle.station.specs.Station.{Result}

@@ -3,7 +3,7 @@
 use mathlib.Core.Path.{_≡_, refl, sym, ap, subst, _∙_}
 use mathlib.Core.Bool.{Bool, false}
 use mathlib.Core.List.{List, _∷_}
-use Prim.Native.Nat.{ℕ, _*_, _/_, _%_, _^_, _<_}
+use Prim.Native.Nat.{ℕ, _*_, _/_, _%_}
 use native.Mathlib.Omega.{arith}
 use lib.ListN.{length, drop, replicate}
 use lib.Seq.{take-at}
@@ -11,24 +11,21 @@ use Rattle.wire.proofs.Checks.{passed}
 use Rattle.writing.specs.Writing.{addressBytesWrong}
 use Rattle.writing.proofs.Writes.{frame-fits}
 use Rattle.states.specs.declared.record.Router.{Router}
-use Rattle.states.specs.declared.record.State.the-variants.{Initialize, Master}
-use Rattle.places.specs.declared.place.Found.{Found}
+use Rattle.states.specs.declared.record.State.the-variants.{Master}
 use Rattle.places.specs.declared.place.Found.the-variants.{At}
-use Rattle.places.specs.Place.{recordAt}
-use Rattle.events.specs.Lists.{listAt}
 use Rattle.events.specs.Result.{routerPlace}
-use Rattle.configuring.specs.Configuring.{isFound, placeIn, newRouter}
-use Rattle.histories.specs.Histories.{Call, configure, Memory, called, after, begun, GivenAll}
+use Rattle.configuring.specs.Configuring.{isFound, newRouter}
+use Rattle.histories.specs.Histories.{configure, Memory, called, after, begun}
 use Rattle.station.specs.declared.station.Station.{Station}
 use Rattle.station.specs.declared.station.Stepped.{Stepped}
 use Rattle.station.specs.Station.{listOf, packetOf, stationOf}
 use Rattle.station.specs.Making.{stationChecks, stationRefusal, addressesIn, madeOf}
 use Rattle.station.proofs.Made.{made-done}
-use Rattle.in_tables.specs.Tables.{wordsOf, listsOf, WellFormed}
+use Rattle.in_tables.specs.Tables.{wordsOf, WellFormed}
 use Rattle.in_tables.proofs.Tables.{first-record, primary-is, found-first, first-list}
 use Rattle.in_tables.proofs.Begun.{made-in-table, made-well-formed}
-use Rattle.segment.specs.Segment.{routerOf, addressesOf, primaryAddress, Reached, Stands, advertisementOf}
-use Rattle.stepped.specs.Stepped.{steppedAll, tableOf, Come}
+use Rattle.segment.specs.Segment.{routerOf, addressesOf, Reached, Stands, advertisementOf}
+use Rattle.stepped.specs.Stepped.{tableOf, Come}
 use Rattle.stepped.specs.Theorems.{ComeWellFormed, ComeOn, ComeReached, ComeStands, ComeRouter, LastSent}
 use Rattle.stepped.proofs.Onward.{Latest, Onward, list-same}
 use Rattle.stepped.proofs.Lives.{all-stay, all-onward}
