@@ -107,7 +107,7 @@ module _ (vrid : ℕ) where
       let next = clockedBy s d freshRoom .station in
       let left = leftoverOf (clockedBy s d freshRoom .answer) in
       let more = clocks-called times next left (clock-stays s d freshRoom w)
-      (clock-onward s d freshRoom .kept .vrid ∙ v) in
+      (clock-onward s d freshRoom .router .vrid ∙ v) in
       ap (λ (m : Memory). after m (cond (eqb left 0) [] (clocksOf vrid times next left))) (clock-called s d freshRoom w v)
       ∙ either-called (eqb left 0) next (passedIn times next left) (clocksOf vrid times next left) more
 
@@ -129,4 +129,4 @@ module _ (vrid : ℕ) where
       let more = historyOf vrid next rest in
       after-joined (tableOf s) (callsOf vrid s step) more
       ∙ ap (λ (m : Memory). after m more) (step-called s step w v)
-      ∙ history-called next rest (step-stays s step w) (step-onward s step .kept .vrid ∙ v)
+      ∙ history-called next rest (step-stays s step w) (step-onward s step .router .vrid ∙ v)

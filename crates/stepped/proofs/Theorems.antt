@@ -87,13 +87,13 @@ module _ (vrid interval : ℕ) (addresses : List ℕ) (s : Station) (c : Come vr
   on : (s .router .vrid ≡ vrid) × (s .router .interval ≡ interval) × (listOf s ≡ addresses)
       × (s .primary ≡ c .primary) × (s .router .priority ≡ c .priority)
   on = (
-    onward .kept .vrid ∙ ap (λ (x : Station). x .router .vrid) before-fresh,
-    onward .kept .interval ∙ ap (λ (x : Station). x .router .interval) before-fresh,
+    onward .router .vrid ∙ ap (λ (x : Station). x .router .vrid) before-fresh,
+    onward .router .interval ∙ ap (λ (x : Station). x .router .interval) before-fresh,
     list-same onward
         ∙ ap listOf before-fresh
         ∙ fresh-list vrid (c .priority) interval (c .preempt) (c .primary) addresses (c .taken),
     onward .primary-is ∙ ap (λ (x : Station). x .primary) before-fresh,
-    onward .kept .priority ∙ ap (λ (x : Station). x .router .priority) before-fresh,
+    onward .router .priority ∙ ap (λ (x : Station). x .router .priority) before-fresh,
   )
 
   latest : Latest s
