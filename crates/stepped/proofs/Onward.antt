@@ -122,6 +122,7 @@ module _ (s : Station) where
             (λ z. omega arith, ap (drop 14) (whole ∙ own m) ∙ rw (k .count));
       }
 
+  -- anything is written: its first bytes are an advertisement, and a Master's own
   writes-onward : (w : Writes) (r : Router) → Alike (s .router) r → ¬ (needOf w (length (listOf s)) ≡ 0)
       → (r .state ≡ Master → advertisedPriority w (r .priority) ≡ r .priority)
       → Onward s (keptBy s (record { router = r; writes = w }))
@@ -138,6 +139,7 @@ module _ (s : Station) where
   kept-onward Farewell r k leads = writes-onward Farewell r k (λ z. omega arith) (λ m. absurd (leads m))
   kept-onward Takeover r k leads = writes-onward Takeover r k (λ z. omega arith) (λ m. refl)
 
+  -- an outcome, by whether the room holds what it writes
   acted-onward : (o : Outcome) (leftover : ℕ) (room : List ℕ) → Alike (s .router) (o .router)
       → Leads (o .writes) (s .router .state) (o .router .state) → Onward s (actedBy s o leftover room .station)
   unfolding actedBy
