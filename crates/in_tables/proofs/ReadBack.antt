@@ -35,7 +35,7 @@ module _ (r : Router) (primary : ℕ) (list : List ℕ) where
       let frame = frameOf (r .vrid) priority (r .interval) primary list in
       take-all (50 + length list) frame (omega (arith, frame-length (r .vrid) priority (r .interval) primary list))
 
-  advertisement-first : (writes : Writes) → ¬ (needOf writes (length list) ≡ 0)
+  pub advertisement-first : (writes : Writes) → ¬ (needOf writes (length list) ≡ 0)
       → take (50 + length list) (bytesOf writes r primary list)
       ≡ frameOf (r .vrid) (advertisedPriority writes (r .priority)) (r .interval) primary list
   advertisement-first Nothing some = absurd (some refl)

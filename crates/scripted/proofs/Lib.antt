@@ -1,0 +1,9 @@
+pub mod Joined
+pub mod Printed
+pub mod Listed
+pub mod Letters
+pub mod Running
+pub mod Heard
+pub mod Handing
+pub mod Theorems
+pub mod Election

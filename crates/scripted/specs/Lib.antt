@@ -1,0 +1,3 @@
+pub mod Scripted
+pub mod Theorems
+pub mod Examples

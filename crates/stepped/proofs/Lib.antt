@@ -1,0 +1,5 @@
+pub mod Leading
+pub mod Onward
+pub mod Lives
+pub mod Calls
+pub mod Theorems
