@@ -1,7 +1,7 @@
 -- What no step of a station changes: how it was configured, and that what a Master last sent is its advertisement.
 -- Assumes nothing.
 use mathlib.Core.Path.{_≡_, refl, ap, _∙_}
-use mathlib.Core.Bool.{Bool, true, false, cond}
+use mathlib.Core.Bool.{Bool, true, false, cond, _&&_}
 use mathlib.Core.List.{List}
 use Prim.Native.Nat.{ℕ}
 use native.Mathlib.Omega.{arith}
@@ -27,10 +27,10 @@ use Rattle.router.proofs.Kept.{step-keeps, ticked-keeps}
 use Rattle.output.specs.Output.{bytesOf, needOf}
 use Rattle.output.proofs.Lengths.{frame-length}
 use Rattle.station.specs.declared.station.Station.{Station}
-use Rattle.station.specs.Station.{Result, listOf, packetOf, withRouter, withFrame}
+use Rattle.station.specs.Station.{Result, hasRouter, listOf, packetOf, withRouter, withFrame}
 use Rattle.station.specs.Acting.{neededBy, keptBy, actedBy}
 use Rattle.hearing.specs.Hearing.{countedBy, refusalBy, acceptedOutcome, acceptedBy, judgedBy, heardBy}
-use Rattle.steps.specs.Steps.{happenedTo, clockedBy}
+use Rattle.steps.specs.Steps.{steppedBy, happenedTo, clockedBy}
 use Rattle.in_tables.specs.Latest.{advertisedPriority}
 use Rattle.in_tables.proofs.ReadBack.{advertisement-first}
 use Rattle.stepped.proofs.Leading.{Leads, step-leads, ticked-leads}
@@ -146,6 +146,11 @@ module _ (s : Station) where
   acted-onward o leftover room k leads =
       either-onward s (ltb (length room) (neededBy s o)) _ _ (rests s) (kept-onward (o .writes) (o .router) k leads)
 
+  stepped-onward : (o : Outcome) (leftover : ℕ) (room : List ℕ) → Alike (s .router) (o .router)
+      → Leads (o .writes) (s .router .state) (o .router .state) → Onward s (steppedBy s o leftover room .station)
+  stepped-onward o leftover room k leads =
+      either-onward s (hasRouter s) _ _ (acted-onward o leftover room k leads) (rests s)
+
   counted-onward : (number : ℕ) → Onward s (countedBy s number)
   unfolding countedBy listOf packetOf
   counted-onward number =
@@ -159,7 +164,7 @@ module _ (s : Station) where
       let r = acceptedOf (s .router) in
       let k = step-keeps (s .primary) r (Packet (f .priority) (f .source)) in
       let leads = step-leads (s .primary) r (Packet (f .priority) (f .source)) in
-      either-onward s (eqb (f .vrid) (s .router .vrid)) (acceptedBy s packet f room) _
+      either-onward s (hasRouter s && eqb (f .vrid) (s .router .vrid)) (acceptedBy s packet f room) _
       (either-onward s (eqb number 0) _ _
       (acted-onward (acceptedOutcome s f) 0 room
       (alike (s .router) _ (k .vrid) (k .priority) (k .interval) (k .count)) leads)
@@ -170,7 +175,7 @@ pub event-onward : (s : Station) (event : Event) (room : List ℕ) → Onward s 
 unfolding happenedTo
 event-onward s event room =
     let k = step-keeps (s .primary) (s .router) event in
-    acted-onward s (stepOf (s .primary) (s .router) event) 0 room
+    stepped-onward s (stepOf (s .primary) (s .router) event) 0 room
     (alike (s .router) _ (k .vrid) (k .priority) (k .interval) (k .count)) (step-leads (s .primary) (s .router) event)
 
 pub clock-onward : (s : Station) (d : ℕ) (room : List ℕ) → Onward s (clockedBy s d room .station)
@@ -178,7 +183,7 @@ unfolding clockedBy
 clock-onward s d room =
     let ticked = tickedOf (s .primary) (s .router) d in
     let k = ticked-keeps (s .primary) (s .router) d in
-    acted-onward s (ticked .outcome) (ticked .leftover) room
+    stepped-onward s (ticked .outcome) (ticked .leftover) room
     (alike (s .router) _ (k .vrid) (k .priority) (k .interval) (k .count)) (ticked-leads (s .primary) (s .router) d)
 
 pub packet-onward : (s : Station) (packet room : List ℕ) → Onward s (heardBy s packet room .station)

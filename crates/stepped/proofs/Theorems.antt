@@ -20,7 +20,7 @@ use Rattle.station.specs.declared.station.Station.{Station}
 use Rattle.station.specs.declared.station.Stepped.{Stepped}
 use Rattle.station.specs.Station.{listOf, packetOf, stationOf}
 use Rattle.station.specs.Making.{stationChecks, stationRefusal, addressesIn, madeOf}
-use Rattle.station.proofs.Made.{made-done}
+use Rattle.station.proofs.Made.{made-named, made-done}
 use Rattle.in_tables.specs.Tables.{wordsOf, WellFormed}
 use Rattle.in_tables.proofs.Tables.{first-record, primary-is, found-first, first-list}
 use Rattle.in_tables.proofs.Begun.{made-in-table, made-well-formed}
@@ -76,7 +76,7 @@ module _ (vrid interval : ℕ) (addresses : List ℕ) (s : Station) (c : Come vr
   before-formed : WellFormed before
   before-formed =
       made-well-formed vrid (c .priority) interval (c .preempt) (c .primary) addresses (c .vrid-byte) (c .priority-byte)
-      (c .interval-byte) (c .taken)
+      (c .interval-byte)
 
   onward : Onward before s
   onward = subst (λ (x : Station). Onward before x) (sym (c .come)) (all-onward before (c .steps))
@@ -103,7 +103,9 @@ module _ (vrid interval : ℕ) (addresses : List ℕ) (s : Station) (c : Come vr
 
   -- the table's router is the station's
   place-is : routerPlace (wordsOf s) vrid ≡ At 0
-  place-is = ap (routerPlace (wordsOf s)) (sym (on .0)) ∙ found-first s formed
+  place-is =
+      let named = made-named vrid (c .priority) interval (c .preempt) (c .primary) addresses (c .taken) in
+      ap (routerPlace (wordsOf s)) (sym (on .0)) ∙ found-first s formed (λ z. named (sym (on .0) ∙ z))
 
   router-is : routerOf vrid (tableOf s) ≡ s .router
   router-is = rw place-is (first-record s formed)
