@@ -19,23 +19,6 @@ use Rattle.station.specs.Station.{Leaves, hasRouter, withRouter}
 use Rattle.station.specs.Acting.{actedBy}
 use Rattle.hearing.specs.Hearing.{refusedBy, refusalBy, acceptedOutcome, acceptedBy, soughtBy, heardBy}
 
--- a packet that is refused is refused by 1 or more
-least-test : (t : Bool) (packet : List ℕ) (number : ℕ) → eqb (refusalOf packet) 0 ≡ t
-    → JudgedRefused number ≡ cond t (Accepted (fieldsOf packet)) (JudgedRefused (refusalOf packet)) → number ≡ 0 → ⊥
-least-test true packet number e f z = let y : _≡_ {A = ℕ} 0 1 = cc in omega arith
-least-test false packet number e f z =
-    let y : refusalOf packet ≡ number = cc in eqb-false (refusalOf packet) 0 e (omega arith)
-
-pub refused-least : (packet : List ℕ) (number : ℕ) → JudgedRefused number ≡ judgedOf packet → ¬ (number ≡ 0)
-unfolding judgedOf
-refused-least packet number f = least-test (eqb (refusalOf packet) 0) packet number refl f
-
--- there is a router and it is this one, unless there is none or it is another
-unless : (none same : Bool) → (not none && same) ≡ not (none || not same)
-unless true same = refl
-unless false true = refl
-unless false false = refl
-
 module _ (s : Station) (packet : List ℕ) (f : Fields) (room : List ℕ) where
   pub heard-refused : (number : ℕ) (station : Station) → number ≡ refusalBy s packet f → ¬ (number ≡ 0)
       → station ≡ withRouter s (refusedOf (s .router) number)

@@ -12,7 +12,7 @@ use Rattle.judging.specs.declared.Fields.{Fields}
 use Rattle.judging.specs.declared.Judged.{Judged}
 use Rattle.judging.specs.declared.Judged.the-variants.{Accepted, Refused}
 use Rattle.judging.specs.Judging.{judgedOf}
-use Rattle.judging.proofs.Accepted.{refused-most}
+use Rattle.judging.proofs.Accepted.{refused-most, refused-least}
 use Rattle.states.specs.declared.step.Event.the-variants.{Packet}
 use Rattle.states.specs.declared.step.Outcome.{Outcome}
 use Rattle.states.specs.Step.{stepOf}
@@ -34,7 +34,6 @@ use Rattle.in_tables.specs.Tables.{wordsOf, listsOf, inTable, WellFormed
 use Rattle.in_tables.specs.Theorems.{OneStep, EventInTable, ClockInTable, PacketInTable, DeliveryInTable}
 use Rattle.in_tables.specs.Theorems.{NoneInTable}
 use Rattle.station.proofs.Arrays.{list-length}
-use Rattle.hearing.proofs.Heard.{refused-least}
 use Rattle.in_tables.proofs.Tables.{store-first, first-record, primary-is, found-first, nothing-else}
 use Rattle.in_tables.proofs.Tables.{few, first-list, count-first}
 

@@ -14,7 +14,7 @@ ghost use mathlib.Core.Path.{_≡_};
 ghost use Rattle.states.specs.declared.step.Event.the-variants.{Startup, Shutdown};
 ghost use Rattle.events.specs.Result.{Leaves};
 ghost use Rattle.configuring.specs.Configuring.{emptyOf, Configured, Removed};
-ghost use Rattle.events.specs.Events.{happenedOf, clockedOf, toldOf, interfaceCount};
+ghost use Rattle.events.specs.Events.{happenedOf, clockedOf, askedOf, Tells, interfaceCount};
 ghost use Rattle.packets.specs.Packets.{heardOf};
 
 // Makes an empty table of an interface with this primary address.
@@ -93,7 +93,7 @@ pub fn packet(
 
 // What a virtual router is at: its record, or refusal 20.
 pub fn question(words: &[u32; 4096], vrid: u8) -> Told
-    ensures { λ r. ⌜ r ≡ toldOf (now (words .entry)) vrid ⌝ }
+    ensures { λ r. ⌜ Tells (askedOf (now (words .entry)) vrid) r ⌝ }
 {
     tell(words, vrid)
 }

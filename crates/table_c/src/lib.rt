@@ -7,7 +7,7 @@ use table::calls::packet;
 use table::calls::startup;
 ghost use mathlib.Core.Path.{_≡_};
 ghost use Rattle.states.specs.declared.step.Event.the-variants.{Startup};
-ghost use Rattle.events.specs.Result.{answerNumber};
+ghost use Rattle.events.specs.Result.{answerOf};
 ghost use Rattle.configuring.specs.Configuring.{emptyOf, Configured};
 ghost use Rattle.events.specs.Events.{happenedOf, clockedOf};
 ghost use Rattle.packets.specs.Packets.{heardOf};
@@ -15,7 +15,7 @@ ghost use Rattle.table_c.specs.Numbered.{Numbered};
 
 // The number of an answer, without the bytes written, the ticks left over and the room that is needed.
 fn number_of(answered: Answered) -> u32
-    ensures { λ r. ⌜ r ≡ answerNumber answered ⌝ }
+    ensures { λ r. ⌜ r ≡ answerOf answered .number ⌝ }
 {
     match answered {
         Answered::Done(_, _) => 0,

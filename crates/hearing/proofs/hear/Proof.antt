@@ -4,9 +4,9 @@ use mathlib.Core.Path.{sym, _∙_}
 use native.Mathlib.Omega.{arith}
 use borrow.Author.Needs.{needs}
 use denote.Ref.{now}
-use Rattle.judging.proofs.Accepted.{refused-most, list-inside}
+use Rattle.judging.proofs.Accepted.{refused-most, refused-least, list-inside}
 use Rattle.station.proofs.Acted.{leaves-equal}
-use Rattle.hearing.proofs.Heard.{refused-least, heard-unfit, heard-fit}
+use Rattle.hearing.proofs.Heard.{heard-unfit, heard-fit}
 use Rattle.hearing.proofs.hear.Statement.{statement}
 use Rattle.hearing.proofs.hear.Tie as tie
 
