@@ -50,6 +50,12 @@ module _ (primary : ℕ) where
       let e : baseOf p ≡ suc (15 + 16 * p) = omega arith in
       ap (λ (k : ℕ). getD (primary ∷ zeros 4095) k 0) e ∙ first-zeros 4095 (15 + 16 * p) primary (omega arith)
 
+  empty-word : (p k : ℕ) → p < 255 → k < 16 → getD (emptyOf primary) (baseOf p + k) 0 ≡ 0
+  unfolding emptyOf
+  empty-word p k h b =
+      let e : baseOf p + k ≡ suc (15 + 16 * p + k) = omega arith in
+      ap (λ (i : ℕ). getD (primary ∷ zeros 4095) i 0) e ∙ first-zeros 4095 (15 + 16 * p + k) primary (omega arith)
+
   pub empty-record : (p : ℕ) → p < 255 → recordAt (emptyOf primary) p ≡ freed
   unfolding recordAt emptyOf decodeOf
   empty-record p h =
@@ -68,5 +74,6 @@ module _ (primary : ℕ) where
               named = empty-first p h ∙ sym (ap (λ (r : Router). r .vrid) (empty-record p h));
               timed = rw (empty-record p h) refl;
               configured = λ z. absurd (z (empty-first p h));
+              free = λ z k b. empty-word p k h b;
             };
       }

@@ -2,7 +2,7 @@
 -- Assumes nothing.
 use mathlib.Core.Path.{_≡_, refl, sym, ap, _∙_}
 use mathlib.Core.List.{List, [], _∷_}
-use mathlib.Core.Bool.{Bool, true, false, cond, not}
+use mathlib.Core.Bool.{Bool, true, false, cond}
 use Prim.Native.Nat.{ℕ, _+_, _*_, _/_, _%_, _^_, _≤_, _<_}
 use native.Mathlib.Nat.{zero-add}
 use native.Mathlib.Omega.{arith}
@@ -19,19 +19,22 @@ use Rattle.states.specs.declared.step.Event.{Event}
 use Rattle.states.specs.declared.step.Event.the-variants.{Startup, Shutdown}
 use Rattle.states.specs.declared.step.Outcome.{Outcome}
 use Rattle.states.specs.Step.{stepOf}
-use Rattle.router.specs.Accept.{listDiffers, routerRefusal}
 use Rattle.output.specs.Output.{needOf}
 use Rattle.places.specs.declared.place.Found.{Found}
 use Rattle.places.specs.declared.place.Found.the-variants.{At, Nothing}
-use Rattle.places.specs.Place.{primaryOf, recordAt, setRecord, placeOf, refusalCount, countRefusal}
+use Rattle.places.specs.Place.{primaryOf, recordAt, setRecord, placeOf, refusalCount, countRefusal, countAtPlace}
 use Rattle.places.proofs.Finding.{found}
+use Rattle.places.proofs.Beside.{beside-count}
+use Rattle.places.proofs.Events.{event-beside, count-beside}
 use Rattle.places.proofs.Words.{store-count, count-same, count-other}
-use Rattle.events.specs.Result.{Result, answerNumber, routerPlace, actedOf}
+use Rattle.events.specs.Result.{Result, refuses, routerPlace, actedOf}
 use Rattle.configuring.specs.Configuring.{placeIn, newRouter, freed, configureRefusal, removeRefusal}
 use Rattle.events.specs.Events.{happenedAt, happenedOf, clockedAt, clockedOf, interfaceCount}
 use Rattle.packets.specs.Packets.{refusalAt, acceptedAt, soughtAt, judgedAt, heardOf}
+use Rattle.packets.proofs.Heard.{refused-range}
 use Rattle.histories.specs.Histories.{Call, configure, remove, startup, shutdown, clock, packet, Memory, called, after}
-use Rattle.histories.specs.Histories.{begun, GivenAll, answeredBy, refusalsIn, InterfaceCounts}
+use Rattle.histories.specs.Histories.{begun, GivenAll, answeredBy, refusalsIn}
+use Rattle.histories.specs.Theorems.{InterfaceCounts}
 use Rattle.configuring.proofs.Configures.{never-full, never-unknown}
 use Rattle.events.proofs.Sought.{sought-below}
 use Rattle.histories.proofs.Begun.{empty-held, empty-count}
@@ -48,7 +51,7 @@ module _ (number : ℕ) (least : 1 ≤ number) (most : number ≤ 9) where
 
   -- a call adds one to the count where its answer is the number
   abbrev Adds : List ℕ → Result → Type 0
-  Adds words result = of (result .words) ≡ (of words + one (answerNumber (result .answer))) % 2 ^ 32
+  Adds words result = of (result .words) ≡ (of words + one (result .answer .number)) % 2 ^ 32
 
   same-adds : (words after : List ℕ) → of words < 2 ^ 32 → of after ≡ of words → of after ≡ (of words + 0) % 2 ^ 32
   same-adds words after small e = omega arith
@@ -81,43 +84,38 @@ module _ (number : ℕ) (least : 1 ≤ number) (most : number ≤ 9) where
   acted-same-test true a b words x y = x
   acted-same-test false a b words x y = y
 
-  acted-same : (words lists : List ℕ) (p : ℕ) (o : Outcome) (leftover : ℕ) (room : List ℕ) → p < 255 → length words ≡ 4096
+  acted-same : (words lists : List ℕ) (p : ℕ) (o : Outcome) (leftover : ℕ) (room : List ℕ)
       → of (actedOf words lists p o leftover room .words) ≡ of words
   unfolding actedOf
-  acted-same words lists p o leftover room below long =
+  acted-same words lists p o leftover room =
       acted-same-test (ltb (length room) (needOf (o .writes) (4 * o .router .count))) _ _ words refl
-      (store-count words p (o .router) below long number most)
+      (beside-count p words _ (event-beside words p (o .router)) number most)
 
-  acted-adds : (words lists : List ℕ) (p : ℕ) (o : Outcome) (leftover : ℕ) (room : List ℕ) → p < 255 → length words ≡ 4096
-      → of words < 2 ^ 32 → Adds words (actedOf words lists p o leftover room)
+  acted-adds : (words lists : List ℕ) (p : ℕ) (o : Outcome) (leftover : ℕ) (room : List ℕ) → of words < 2 ^ 32 → Adds words (actedOf words lists p o leftover room)
   unfolding actedOf
-  acted-adds words lists p o leftover room below long small =
+  acted-adds words lists p o leftover room small =
       either-adds (ltb (length room) (needOf (o .writes) (4 * o .router .count))) _ _ words
       (other-adds words words small refl 22 (λ z. omega arith))
-      (other-adds words _ small (store-count words p (o .router) below long number most) 0 (λ z. omega arith))
+      (other-adds words _ small (beside-count p words _ (event-beside words p (o .router)) number most) 0 (λ z. omega arith))
 
   -- the refusals of a router are others
-  router-test : (a b c d : Bool) → cond a 10 (cond b 11 (cond c 12 (cond d 13 0))) ≡ number → ⊥
-  router-test true b c d z = omega arith
-  router-test false true c d z = omega arith
-  router-test false false true d z = omega arith
-  router-test false false false true z = omega arith
-  router-test false false false false z = omega arith
-
-  router-apart : (r : Router) (f : Fields) (same : Bool) → routerRefusal r f same ≡ number → ⊥
-  unfolding routerRefusal
-  router-apart r f same =
-      router-test (eqb (r .priority) 255) (not (eqb (f .authentication) 0)) (listDiffers (f .priority) same)
-      (not (eqb (f .interval) (r .interval)))
+  heard-adds : (t : Bool) (words lists : List ℕ) (p : ℕ) (bytes : List ℕ) (f : Fields) (room : List ℕ)
+      → eqb (refusalAt words lists p bytes f) 0 ≡ t → of words < 2 ^ 32
+      → Adds words
+      (cond t (actedOf words lists p (acceptedAt words p f) 0 room)
+      (refuses (refusalAt words lists p bytes f) (countAtPlace words p (refusalAt words lists p bytes f)) room))
+  heard-adds true words lists p bytes f room e small = acted-adds words lists p (acceptedAt words p f) 0 room small
+  heard-adds false words lists p bytes f room e small =
+      let n = refusalAt words lists p bytes f in
+      let range = refused-range words lists bytes p f n refl (eqb-false n 0 e) in
+      other-adds words _ small (beside-count p words _ (count-beside words p n (range .0) (range .1)) number most) n
+      (λ z. omega (arith, range))
 
   sought-adds : (f : Found) (words lists bytes : List ℕ) (fields : Fields) (room : List ℕ) → routerPlace words (fields .vrid) ≡ f
       → length words ≡ 4096 → of words < 2 ^ 32 → Adds words (soughtAt f words lists bytes fields room)
   sought-adds Nothing words lists bytes fields room s long small = count-adds words 9 long small (omega arith)
   sought-adds (At p) words lists bytes fields room s long small =
-      let below = sought-below words (fields .vrid) p s in
-      either-adds (eqb (refusalAt words lists p bytes fields) 0) _ _ words
-      (acted-adds words lists p (acceptedAt words p fields) 0 room below long small)
-      (other-adds words _ small (store-count words p _ below long number most) (refusalAt words lists p bytes fields) (router-apart _ _ _))
+      heard-adds (eqb (refusalAt words lists p bytes fields) 0) words lists p bytes fields room refl small
 
   judged-adds : (j : Judged) (words lists bytes room : List ℕ) → judgedOf bytes ≡ j → length words ≡ 4096 → of words < 2 ^ 32
       → Adds words (judgedAt j words lists bytes room)
@@ -133,16 +131,16 @@ module _ (number : ℕ) (least : 1 ≤ number) (most : number ≤ 9) where
   put-same true Nothing words r below there long = absurd (there refl refl)
   put-same true (At p) words r below there long = store-count words p r (below p refl) long number most
 
-  happened-same : (f : Found) (words lists : List ℕ) (v : ℕ) (e : Event) (room : List ℕ) → routerPlace words v ≡ f
-      → length words ≡ 4096 → of (happenedAt f words lists e room .words) ≡ of words
-  happened-same Nothing words lists v e room s long = refl
-  happened-same (At p) words lists v e room s long =
-      acted-same words lists p (stepOf (primaryOf words) (recordAt words p) e) 0 room (sought-below words v p s) long
+  happened-same : (f : Found) (words lists : List ℕ) (e : Event) (room : List ℕ)
+      → of (happenedAt f words lists e room .words) ≡ of words
+  happened-same Nothing words lists e room = refl
+  happened-same (At p) words lists e room =
+      acted-same words lists p (stepOf (primaryOf words) (recordAt words p) e) 0 room
 
-  clocked-same : (f : Found) (words lists : List ℕ) (v d : ℕ) (room : List ℕ) → routerPlace words v ≡ f → length words ≡ 4096
+  clocked-same : (f : Found) (words lists : List ℕ) (d : ℕ) (room : List ℕ)
       → of (clockedAt f words lists d room .words) ≡ of words
-  clocked-same Nothing words lists v d room s long = refl
-  clocked-same (At p) words lists v d room s long = acted-same words lists p _ _ room (sought-below words v p s) long
+  clocked-same Nothing words lists d room = refl
+  clocked-same (At p) words lists d room = acted-same words lists p _ _ room
 
   call-adds : (m : Memory) (call : Call) → length (m .words) ≡ 4096 → of (m .words) < 2 ^ 32
       → of (called m call .words) ≡ (of (m .words) + answeredBy number m call) % 2 ^ 32
@@ -160,11 +158,11 @@ module _ (number : ℕ) (least : 1 ≤ number) (most : number ≤ 9) where
       (put-same (eqb (removeRefusal w v) 0) (routerPlace w v) w freed (sought-below w v)
       (λ e f. never-unknown w v (eqb-true (removeRefusal w v) 0 e) f) long)
   call-adds m (startup v room) long small =
-      same-adds (m .words) _ small (happened-same (routerPlace (m .words) v) (m .words) (m .lists) v Startup room refl long)
+      same-adds (m .words) _ small (happened-same (routerPlace (m .words) v) (m .words) (m .lists) Startup room)
   call-adds m (shutdown v room) long small =
-      same-adds (m .words) _ small (happened-same (routerPlace (m .words) v) (m .words) (m .lists) v Shutdown room refl long)
+      same-adds (m .words) _ small (happened-same (routerPlace (m .words) v) (m .words) (m .lists) Shutdown room)
   call-adds m (clock v d room) long small =
-      same-adds (m .words) _ small (clocked-same (routerPlace (m .words) v) (m .words) (m .lists) v d room refl long)
+      same-adds (m .words) _ small (clocked-same (routerPlace (m .words) v) (m .words) (m .lists) d room)
   call-adds m (packet bytes room) long small = judged-adds (judgedOf bytes) (m .words) (m .lists) bytes room refl long small
 
   history-adds : (m : Memory) (history : List Call) → GivenAll history → Held (m .words) → of (m .words) < 2 ^ 32

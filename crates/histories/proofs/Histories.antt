@@ -2,59 +2,68 @@
 -- Assumes nothing.
 use mathlib.Core.Path.{_≡_, refl, sym, _∙_}
 use mathlib.Core.List.{List, [], _∷_}
-use mathlib.Core.Bool.{Bool, true, false, cond}
-use Prim.Native.Nat.{ℕ, _*_, _/_, _≤_, _<_}
+use mathlib.Core.Bool.{Bool, true, false, cond, not, _||_}
+use Prim.Native.Nat.{ℕ, _*_, _/_, _%_, _≤_, _<_}
 use native.Mathlib.Omega.{arith}
 use lib.Dec.{eqb, ltb}
-use lib.ListN.{length}
-use borrow.Author.Tests.{eqb-true, eqb-false, not-false}
+use lib.ListN.{length, getD}
+use borrow.Author.Tests.{eqb-true, eqb-false, ltb-false, not-false}
 use Rattle.judging.specs.declared.Fields.{Fields}
 use Rattle.judging.specs.declared.Judged.{Judged}
 use Rattle.judging.specs.declared.Judged.the-variants.{Accepted, Refused}
 use Rattle.judging.specs.Judging.{judgedOf}
 use Rattle.judging.proofs.Accepted.{refused-most}
+use Rattle.writing.specs.Writing.{addressBytesWrong}
 use Rattle.wire.proofs.Checks.{passed}
+use Rattle.wire.proofs.Tested.{two-passed}
 use Rattle.states.specs.declared.step.Event.{Event}
 use Rattle.states.specs.declared.step.Event.the-variants.{Startup, Shutdown, Packet}
 use Rattle.states.specs.declared.step.Outcome.{Outcome}
-use Rattle.router.specs.Accept.{refusedOf, acceptedOf}
+use Rattle.router.specs.Accept.{acceptedOf}
 use Rattle.router.specs.Timed.{Timed}
-use Rattle.router.proofs.Kept.{Kept, step-keeps, ticked-keeps}
+use Rattle.states.proofs.Kept.{Unchanged, step-unchanged}
+use Rattle.router.proofs.Kept.{ticked-unchanged}
 use Rattle.router.proofs.Timed.{step-timed, ticked-timed}
 use Rattle.output.specs.Output.{needOf}
 use Rattle.places.specs.declared.place.Found.{Found}
 use Rattle.places.specs.declared.place.Found.the-variants.{At, Nothing}
-use Rattle.places.specs.Place.{primaryOf, recordAt, setRecord, placeOf}
+use Rattle.places.specs.Place.{baseOf, primaryOf, recordAt, setRecord, countAtPlace, placeOf}
 use Rattle.places.proofs.Finding.{found, missing}
 use Rattle.places.specs.Layout.{InRange}
 use Rattle.places.proofs.Records.{read-in-range}
-use Rattle.events.specs.Result.{Result, routerPlace, actedOf}
+use Rattle.events.specs.Result.{Result, refuses, routerPlace, actedOf}
 use Rattle.configuring.specs.Configuring.{isFound, placeIn, newRouter, freed, configureChecks, configureRefusal, removeChecks, removeRefusal}
 use Rattle.events.specs.Events.{happenedAt, happenedOf, clockedAt, clockedOf}
-use Rattle.packets.specs.Packets.{refusalAt, acceptedAt, heardAt, soughtAt, judgedAt, heardOf}
+use Rattle.packets.specs.Packets.{refusalAt, acceptedAt, soughtAt, judgedAt, heardOf}
+use Rattle.packets.proofs.Heard.{refused-range}
 use Rattle.histories.specs.Histories.{Call, configure, remove, startup, shutdown, clock, packet, Given, Memory, called, after}
-use Rattle.histories.specs.Histories.{begun, GivenAll, AfterEveryHistory}
+use Rattle.histories.specs.Histories.{begun, GivenAll}
+use Rattle.histories.specs.Theorems.{AfterEveryHistory}
 use Rattle.events.proofs.Sought.{sought-word}
-use Rattle.histories.proofs.Held.{Held, store-held, replace-held, count-held}
+use Rattle.histories.proofs.Changed.{event-changed, count-changed}
+use Rattle.histories.proofs.Held.{Held, store-held, changed-held, count-held}
 use Rattle.configuring.proofs.Configures.{configure-most}
 use Rattle.histories.proofs.Begun.{empty-held}
 
 -- a router that was found is in use, and so it has an interval
-in-use : (words : List ℕ) → Held words → (v p : ℕ) → routerPlace words v ≡ At p → (p < 255) × (1 ≤ recordAt words p .interval)
+in-use : (words : List ℕ) → Held words → (v p : ℕ) → routerPlace words v ≡ At p
+    → (p < 255) × ¬ (getD words (baseOf p) 0 ≡ 0) × (1 ≤ recordAt words p .interval)
 in-use words held v p e =
     let w = sought-word words v p e in
-    (w .0, held .sound p (w .0) .configured (λ z. w .2 (sym (w .1) ∙ z)) .0)
+    let used : ¬ (getD words (baseOf p) 0 ≡ 0) = λ z. w .2 (sym (w .1) ∙ z) in
+    (w .0, used, held .sound p (w .0) .configured used .0)
 
 either-held : (t : Bool) (a b : Result) → Held (a .words) → Held (b .words) → Held (cond t a b .words)
 either-held true a b h k = h
 either-held false a b h k = k
 
-acted-held : (words lists : List ℕ) → Held words → (p : ℕ) → p < 255 → (o : Outcome) (leftover : ℕ) (room : List ℕ)
-    → Kept (recordAt words p) (o .router) → Timed (o .router) → Held (actedOf words lists p o leftover room .words)
+acted-held : (words lists : List ℕ) → Held words → (p : ℕ) → p < 255 → ¬ (getD words (baseOf p) 0 ≡ 0) → (o : Outcome) (leftover : ℕ)
+    (room : List ℕ) → Unchanged (recordAt words p) (o .router) → Timed (o .router)
+    → Held (actedOf words lists p o leftover room .words)
 unfolding actedOf
-acted-held words lists held p below o leftover room kept timed =
+acted-held words lists held p below used o leftover room same timed =
     either-held (ltb (length room) (needOf (o .writes) (4 * o .router .count))) _ _ held
-    (replace-held words held p below (o .router) kept timed)
+    (changed-held words _ held p below used (o .router) (event-changed words p (o .router) below (held .long) same) timed)
 
 priority-most : (words : List ℕ) (p : ℕ) → recordAt words p .priority ≤ 255
 priority-most words p = omega (arith, read-in-range words p .priority)
@@ -64,41 +73,50 @@ happened-held : (f : Found) (words lists : List ℕ) → Held words → (v : ℕ
 happened-held Nothing words lists held v e room s = held
 happened-held (At p) words lists held v e room s =
     let u = in-use words held v p s in
-    acted-held words lists held p (u .0) _ 0 room (step-keeps (primaryOf words) (recordAt words p) e)
-    (step-timed (recordAt words p) (u .1) (priority-most words p) (primaryOf words) e (held .sound p (u .0) .timed))
+    acted-held words lists held p (u .0) (u .1) _ 0 room (step-unchanged (primaryOf words) (recordAt words p) e)
+    (step-timed (recordAt words p) (u .2) (priority-most words p) (primaryOf words) e (held .sound p (u .0) .timed))
 
 clocked-held : (f : Found) (words lists : List ℕ) → Held words → (v d : ℕ) (room : List ℕ) → routerPlace words v ≡ f
     → Held (clockedAt f words lists d room .words)
 clocked-held Nothing words lists held v d room s = held
 clocked-held (At p) words lists held v d room s =
     let u = in-use words held v p s in
-    acted-held words lists held p (u .0) _ _ room (ticked-keeps (primaryOf words) (recordAt words p) d)
-    (ticked-timed (recordAt words p) (u .1) (priority-most words p) (primaryOf words) d (held .sound p (u .0) .timed))
+    acted-held words lists held p (u .0) (u .1) _ _ room (ticked-unchanged (primaryOf words) (recordAt words p) d)
+    (ticked-timed (recordAt words p) (u .2) (priority-most words p) (primaryOf words) d (held .sound p (u .0) .timed))
 
-accepted-held : (words lists : List ℕ) → Held words → (p : ℕ) → p < 255 → 1 ≤ recordAt words p .interval → (f : Fields) (room : List ℕ)
-    → Held (actedOf words lists p (acceptedAt words p f) 0 room .words)
-accepted-held words lists held p below interval f room =
-    let r = acceptedOf (recordAt words p) in
-    let e = Packet (f .priority) (f .source) in
-    let k = step-keeps (primaryOf words) r e in
-    acted-held words lists held p below _ 0 room
-    (record { vrid = k .vrid; priority = k .priority; interval = k .interval; preempt = k .preempt; count = k .count })
-    (step-timed r interval (priority-most words p) (primaryOf words) e (held .sound p below .timed))
+-- counting an accepted packet changes neither the configuration nor what was refused
+pub accepted-unchanged : (words : List ℕ) (p : ℕ) (f : Fields) → Unchanged (recordAt words p) (acceptedAt words p f .router)
+accepted-unchanged words p f =
+    let s = step-unchanged (primaryOf words) (acceptedOf (recordAt words p)) (Packet (f .priority) (f .source)) in
+    let k = s .kept in
+    record {
+      kept = record { vrid = k .vrid; priority = k .priority; interval = k .interval; preempt = k .preempt; count = k .count };
+      owner = s .owner;
+      authentication = s .authentication;
+      list-count = s .list-count;
+      interval-count = s .interval-count;
+    }
 
-heard-held : (words lists : List ℕ) → Held words → (p : ℕ) → p < 255 → 1 ≤ recordAt words p .interval → (bytes : List ℕ) (f : Fields)
-    (room : List ℕ) → Held (heardAt words lists p bytes f room .words)
-heard-held words lists held p below interval bytes f room =
-    either-held (eqb (refusalAt words lists p bytes f) 0) _ _ (accepted-held words lists held p below interval f room)
-    (replace-held words held p below (refusedOf (recordAt words p) (refusalAt words lists p bytes f))
-    (record { vrid = refl; priority = refl; interval = refl; preempt = refl; count = refl })
-    (held .sound p below .timed))
+heard-test : (t : Bool) (words lists : List ℕ) → Held words → (p : ℕ) → p < 255 → ¬ (getD words (baseOf p) 0 ≡ 0)
+    → 1 ≤ recordAt words p .interval → (bytes : List ℕ) (f : Fields) (room : List ℕ) → eqb (refusalAt words lists p bytes f) 0 ≡ t
+    → Held
+    (cond t (actedOf words lists p (acceptedAt words p f) 0 room)
+    (refuses (refusalAt words lists p bytes f) (countAtPlace words p (refusalAt words lists p bytes f)) room) .words)
+heard-test true words lists held p below used interval bytes f room e =
+    acted-held words lists held p below used _ 0 room (accepted-unchanged words p f)
+    (step-timed (acceptedOf (recordAt words p)) interval (priority-most words p) (primaryOf words)
+    (Packet (f .priority) (f .source)) (held .sound p below .timed))
+heard-test false words lists held p below used interval bytes f room e =
+    let range = refused-range words lists bytes p f _ refl (eqb-false (refusalAt words lists p bytes f) 0 e) in
+    changed-held words _ held p below used _ (count-changed words p _ below (held .long) (range .0) (range .1))
+    (held .sound p below .timed)
 
 sought-held : (f : Found) (words lists : List ℕ) → Held words → (bytes : List ℕ) (fields : Fields) (room : List ℕ)
     → routerPlace words (fields .vrid) ≡ f → Held (soughtAt f words lists bytes fields room .words)
 sought-held Nothing words lists held bytes fields room s = count-held words held 9 (omega arith)
 sought-held (At p) words lists held bytes fields room s =
     let u = in-use words held (fields .vrid) p s in
-    heard-held words lists held p (u .0) (u .1) bytes fields room
+    heard-test (eqb (refusalAt words lists p bytes fields) 0) words lists held p (u .0) (u .1) (u .2) bytes fields room refl
 
 judged-held : (j : Judged) (words lists : List ℕ) → Held words → (bytes room : List ℕ) → judgedOf bytes ≡ j
     → Held (judgedAt j words lists bytes room .words)
@@ -107,16 +125,28 @@ judged-held (Refused number) words lists held bytes room e =
 judged-held (Accepted fields) words lists held bytes room e =
     sought-held (routerPlace words (fields .vrid)) words lists held bytes fields room refl
 
+-- "17 address bytes not a multiple of 4, none, or above 64": the others are 1 to 16 addresses
+address-count : (addresses : List ℕ) → addressBytesWrong addresses ≡ false
+    → (1 ≤ length addresses / 4) × (length addresses / 4 ≤ 16)
+unfolding addressBytesWrong
+address-count addresses e =
+    let n = length addresses in
+    let most = two-passed (not (eqb (n % 4) 0) || eqb n 0) (ltb 64 n) e in
+    let some = two-passed (not (eqb (n % 4) 0)) (eqb n 0) (most .0) in
+    omega (arith, eqb-true (n % 4) 0 (not-false (eqb (n % 4) 0) (some .0)), eqb-false n 0 (some .1), ltb-false 64 n (most .1))
+
 -- configuring: the free place gets a VRID that stands nowhere yet
 fresh-held : (f g : Found) (words : List ℕ) → Held words → (v priority interval : ℕ) (preempt : Bool) (n : ℕ) → placeOf words 0 ≡ f
     → placeOf words v ≡ g → isFound f ≡ true → isFound g ≡ false → InRange (newRouter v priority interval preempt n)
-    → 1 ≤ interval → 1 ≤ priority → Held (setRecord words (placeIn f) (newRouter v priority interval preempt n))
-fresh-held Nothing g words held v priority interval preempt n a b c d range i p = absurd (let z : _≡_ {A = ℕ} 0 1 = cc in omega arith)
-fresh-held (At q) (At k) words held v priority interval preempt n a b c d range i p =
+    → (1 ≤ interval) × (1 ≤ priority) × (1 ≤ n) × (n ≤ 16) → ¬ (v ≡ 0)
+    → Held (setRecord words (placeIn f) (newRouter v priority interval preempt n))
+fresh-held Nothing g words held v priority interval preempt n a b c d range i some = absurd (let z : _≡_ {A = ℕ} 0 1 = cc in omega arith)
+fresh-held (At q) (At k) words held v priority interval preempt n a b c d range i some =
     absurd (let z : _≡_ {A = ℕ} 0 1 = cc in omega arith)
-fresh-held (At q) Nothing words held v priority interval preempt n a b c d range i p =
+fresh-held (At q) Nothing words held v priority interval preempt n a b c d range i some =
     let l = found words 0 q a in
-    store-held words held q (omega (arith, l .below)) (newRouter v priority interval preempt n) range refl (λ z. (i, p))
+    store-held words held q (omega (arith, l .below)) (newRouter v priority interval preempt n) range refl (λ z. i)
+    (λ z. absurd (some z))
     (λ k u y e. absurd (missing words v b k u e))
 
 configure-test : (t : Bool) (words : List ℕ) → Held words → (v priority interval : ℕ) (preempt : Bool) (addresses : List ℕ)
@@ -128,12 +158,13 @@ configure-test true words held v priority interval preempt addresses a b c e =
     let none = eqb-true (configureRefusal words v priority interval addresses) 0 e in
     let p = passed (configureChecks words v priority interval addresses) (omega arith) none in
     let most = configure-most words [] v priority interval preempt addresses none in
+    let count = address-count addresses (p .1 .1 .1 .0) in
     fresh-held (placeOf words 0) (placeOf words v) words held v priority interval preempt (length addresses / 4) refl refl
     (not-false (isFound (placeOf words 0)) (p .1 .1 .1 .1 .1 .0))
     (p .1 .1 .1 .1 .0)
     (record { vrid = a; priority = b; interval = c; count = omega arith })
-    (omega (arith, eqb-false interval 0 (p .1 .1 .0)))
-    (omega (arith, eqb-false priority 0 (p .1 .0)))
+    (omega (arith, eqb-false interval 0 (p .1 .1 .0), eqb-false priority 0 (p .1 .0), count))
+    (eqb-false v 0 (p .0))
 
 -- removing: the place gets no VRID
 free-held : (f : Found) (words : List ℕ) → Held words → (v : ℕ) → routerPlace words v ≡ f → isFound f ≡ true
@@ -142,7 +173,7 @@ free-held Nothing words held v s e = absurd (let z : _≡_ {A = ℕ} 0 1 = cc in
 free-held (At p) words held v s e =
     store-held words held p (sought-word words v p s .0) freed
     (record { vrid = omega arith; priority = omega arith; interval = omega arith; count = omega arith })
-    refl (λ z. absurd (z refl)) (λ q u n y. refl)
+    refl (λ z. absurd (z refl)) (λ z. refl) (λ q u n y. refl)
 
 remove-test : (t : Bool) (words : List ℕ) → Held words → (v : ℕ) → eqb (removeRefusal words v) 0 ≡ t
     → Held (cond t (setRecord words (placeIn (routerPlace words v)) freed) words)

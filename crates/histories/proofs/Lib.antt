@@ -1,3 +1,4 @@
+pub mod Changed
 pub mod Held
 pub mod Begun
 pub mod Histories

@@ -19,19 +19,17 @@ use Rattle.judging.proofs.Accepted.{refusal-most}
 use Rattle.states.specs.declared.record.Router.{Router}
 use Rattle.states.specs.declared.step.Event.{Event}
 use Rattle.states.specs.declared.step.Outcome.{Outcome}
-use Rattle.router.specs.Accept.{routerRefusal, refusedOf}
+use Rattle.router.specs.Accept.{routerRefusal}
 use Rattle.places.specs.declared.place.Found.{Found}
 use Rattle.places.specs.declared.place.Found.the-variants.{At, Nothing}
-use Rattle.places.specs.Place.{recordAt, setRecord}
-use Rattle.events.specs.declared.answer.Answered.{Answered}
-use Rattle.events.specs.declared.answer.Answered.the-variants.{Refused}
-use Rattle.events.specs.Result.{Result, answerNumber, refuses, routerPlace, actedOf}
-use Rattle.events.specs.Events.{happenedOf, clockedOf, toldOf}
+use Rattle.places.specs.Place.{countAtPlace}
+use Rattle.events.specs.Result.{Answer, Result, refusal, refuses, routerPlace, actedOf}
+use Rattle.events.specs.Events.{happenedOf, clockedOf, Status, askedOf}
 use Rattle.configuring.specs.Configuring.{configureChecks, configureRefusal, removeChecks, removeRefusal}
 use Rattle.packets.specs.Packets.{acceptedAt, heardAt, soughtAt, judgedAt, heardOf}
 use Rattle.histories.specs.Rows.{recordFor, needs, roomCheck, eventOutcome, eventChecks, clockTicked, clockChecks}
 use Rattle.histories.specs.Rows.{questionChecks, placeChecks, packetOutcome, tableChecks, packetChecks, answerBy}
-use Rattle.histories.specs.Rows.{toldBy, toldNumber, OneOf}
+use Rattle.histories.specs.Rows.{statusBy, OneOf}
 use Rattle.histories.specs.Theorems.{ConfigureAnswers, RemoveAnswers, EventAnswers, ClockAnswers, PacketAnswers}
 use Rattle.histories.specs.Theorems.{ConfigureExactly, RemoveExactly, EventExactly, ClockExactly, PacketExactly}
 use Rattle.histories.specs.Theorems.{QuestionAnswers, QuestionExactly, EventValues, ClockValues, PacketValues}
@@ -70,28 +68,28 @@ module _ (checks : List Check) (number : ℕ) (e : number ≡ firstRefusal check
   one-of = subst (OneOf (0 ∷ numbersOf checks)) (sym e) (among checks)
 
 -- an answer by its number: a refusal without values, and the number itself
-refused-by : (number need leftover : ℕ) → ¬ (number ≡ 0) → ¬ (number ≡ 22) → Refused number ≡ answerBy number need leftover
+refused-by : (number need leftover : ℕ) → ¬ (number ≡ 0) → ¬ (number ≡ 22) → refusal number ≡ answerBy number need leftover
 refused-by number need leftover n m = rw (ne-eqb number 0 n, ne-eqb number 22 m)
 
 number-test : (s t : Bool) (number need leftover : ℕ) → eqb number 0 ≡ s → eqb number 22 ≡ t
-    → answerNumber (answerBy number need leftover) ≡ number
+    → answerBy number need leftover .number ≡ number
 number-test true t number need leftover e f = rw e (sym (eqb-true number 0 e))
 number-test false true number need leftover e f = rw (e, f) (sym (eqb-true number 22 f))
 number-test false false number need leftover e f = rw (e, f)
 
-number-by : (number need leftover : ℕ) (answer : Answered) → answer ≡ answerBy number need leftover → answerNumber answer ≡ number
+number-by : (number need leftover : ℕ) (answer : Answer) → answer ≡ answerBy number need leftover → answer .number ≡ number
 number-by number need leftover answer e =
-    ap answerNumber e ∙ number-test (eqb number 0) (eqb number 22) number need leftover refl refl
+    ap (λ (a : Answer). a .number) e ∙ number-test (eqb number 0) (eqb number 22) number need leftover refl refl
 
 -- where checks come after checks, an answer that turns on whether the first pass
-both-test : (t : Bool) (number next need leftover : ℕ) (answer : Bool → Answered) → eqb number 0 ≡ t → ¬ (number ≡ 22)
-    → answer true ≡ answerBy next need leftover → answer false ≡ Refused number
+both-test : (t : Bool) (number next need leftover : ℕ) (answer : Bool → Answer) → eqb number 0 ≡ t → ¬ (number ≡ 22)
+    → answer true ≡ answerBy next need leftover → answer false ≡ refusal number
     → answer t ≡ answerBy (cond t next number) need leftover
 both-test true number next need leftover answer e n x y = x
 both-test false number next need leftover answer e n x y = y ∙ refused-by number need leftover (eqb-false number 0 e) n
 
-both-by : (a b : List Check) (need leftover : ℕ) (answer : Bool → Answered) → Numbered a → firstRefusal a ≤ 21
-    → answer true ≡ answerBy (firstRefusal b) need leftover → answer false ≡ Refused (firstRefusal a)
+both-by : (a b : List Check) (need leftover : ℕ) (answer : Bool → Answer) → Numbered a → firstRefusal a ≤ 21
+    → answer true ≡ answerBy (firstRefusal b) need leftover → answer false ≡ refusal (firstRefusal a)
     → answer (eqb (firstRefusal a) 0) ≡ answerBy (firstRefusal (a ++ b)) need leftover
 both-by a b need leftover answer h most x y =
     both-test (eqb (firstRefusal a) 0) (firstRefusal a) (firstRefusal b) need leftover answer refl (λ z. omega arith) x y
@@ -138,7 +136,7 @@ unfolding routerRefusal
 heard-by words lists p bytes f room =
     let checks = placeChecks words lists p bytes f in
     let number = firstRefusal checks in
-    let refused = refuses number (setRecord words p (refusedOf (recordAt words p) number)) room in
+    let refused = refuses number (countAtPlace words p number) room in
     let accepted = actedOf words lists p (acceptedAt words p f) 0 room in
     both-by checks (roomCheck room (acceptedAt words p f) ∷ []) (needs (acceptedAt words p f)) 0
     (λ (t : Bool). cond t accepted refused .answer) (omega arith) (omega (arith, refusal-most 13 checks (omega arith)))
@@ -161,17 +159,13 @@ packet-values words lists bytes room =
 
 -- a question
 told-at : (f : Found) (words : List ℕ) (v : ℕ) → routerPlace words v ≡ f
-    → toldOf words v ≡ toldBy (firstRefusal (questionChecks words v)) (recordFor words v)
-unfolding toldOf
+    → askedOf words v ≡ statusBy (firstRefusal (questionChecks words v)) (recordFor words v)
+unfolding askedOf
 told-at Nothing words v s = rw s
 told-at (At p) words v s = rw s
 
 pub question-values : QuestionValues
 question-values words v = told-at (routerPlace words v) words v refl
-
-told-test : (t : Bool) (number : ℕ) (router : Router) → eqb number 0 ≡ t → toldNumber (toldBy number router) ≡ number
-told-test true number router e = rw e (sym (eqb-true number 0 e))
-told-test false number router e = rw e
 
 -- the numbers
 pub configure-answers : ConfigureAnswers
@@ -192,9 +186,7 @@ pub packet-answers : PacketAnswers
 packet-answers words lists bytes room = number-by _ _ _ _ (packet-values words lists bytes room)
 
 pub question-answers : QuestionAnswers
-question-answers words v =
-    let number = firstRefusal (questionChecks words v) in
-    ap toldNumber (question-values words v) ∙ told-test (eqb number 0) number (recordFor words v) refl
+question-answers words v = ap (λ (x : Status). x .number) (question-values words v)
 
 -- exactly when a call is done
 pub configure-exactly : ConfigureExactly

@@ -4,7 +4,7 @@ use mathlib.Core.Path.{_≡_, refl, sym, ap, subst, _∙_}
 use mathlib.Core.Logic.{_⊎_, inl, inr}
 use mathlib.Core.List.{List, [], _∷_}
 use mathlib.Core.Bool.{Bool, true, false, cond, _&&_}
-use Prim.Native.Nat.{ℕ, _*_, _/_, _%_, _^_, _<_}
+use Prim.Native.Nat.{ℕ, _*_, _/_, _%_, _^_, _≤_, _<_}
 use native.Mathlib.Omega.{arith}
 use lib.Dec.{eqb, ltb}
 use lib.ListN.{length}
@@ -20,30 +20,33 @@ use Rattle.states.specs.declared.step.Event.{Event}
 use Rattle.states.specs.declared.step.Event.the-variants.{Startup, Shutdown, Packet}
 use Rattle.states.specs.declared.step.Outcome.{Outcome}
 use Rattle.states.specs.Step.{counted, becameMaster}
-use Rattle.router.specs.Accept.{refusedCounts, refusedOf, acceptedOf, acceptedCounts}
-use Rattle.router.proofs.Kept.{Kept, step-keeps, ticked-keeps}
+use Rattle.router.specs.Accept.{refusedCounts, acceptedOf, acceptedCounts}
+use Rattle.states.proofs.Kept.{Unchanged, step-unchanged}
+use Rattle.router.proofs.Kept.{ticked-unchanged}
 use Rattle.output.specs.Output.{needOf}
 use Rattle.places.specs.declared.place.Found.{Found}
 use Rattle.places.specs.declared.place.Found.the-variants.{At, Nothing}
-use Rattle.places.specs.Place.{primaryOf, recordAt, setRecord, placeOf, countRefusal}
+use Rattle.places.specs.Place.{primaryOf, recordAt, setRecord, setEvent, placeOf, countRefusal, countAtPlace}
+use Rattle.places.proofs.Beside.{beside-record}
 use Rattle.places.proofs.Finding.{found}
 use Rattle.places.specs.Layout.{InRange}
 use Rattle.places.proofs.Records.{record-same, record-other}
 use Rattle.places.proofs.Words.{count-record}
-use Rattle.events.specs.declared.answer.Answered.the-variants.{Done, Short}
-use Rattle.events.specs.Result.{Result, refuses, answerNumber, routerPlace, actedOf}
+use Rattle.events.specs.Result.{done, short, Result, refuses, routerPlace, actedOf}
 use Rattle.configuring.specs.Configuring.{placeIn, noCounts, newRouter, freed, configureRefusal, removeRefusal}
 use Rattle.events.specs.Events.{happenedAt, happenedOf, clockedAt, clockedOf}
 use Rattle.packets.specs.Packets.{refusalAt, acceptedAt, heardAt, soughtAt, judgedAt, heardOf}
+use Rattle.packets.proofs.Heard.{refused-range}
 use Rattle.histories.specs.Counts.{becomes, isAt, addressee, hears, becomesMaster, begins, more, tallied, tallyOf, modulo}
-use Rattle.histories.specs.Counts.{RouterCounts}
+use Rattle.histories.specs.Theorems.{RouterCounts}
 use Rattle.histories.specs.Histories.{Call, configure, remove, startup, shutdown, clock, packet, Given, Memory, called, after}
 use Rattle.histories.specs.Histories.{begun, GivenAll}
 use Rattle.histories.proofs.Became.{Bumped, becomes-self, stays-bumped, step-bumped, ticked-bumped}
-use Rattle.histories.proofs.Held.{Held, kept-range, same-or-not}
+use Rattle.histories.proofs.Changed.{Changed, event-changed, count-changed}
+use Rattle.histories.proofs.Held.{Held, same-or-not}
 use Rattle.histories.proofs.Begun.{empty-held, empty-record}
 use Rattle.configuring.proofs.Configures.{configure-most, never-full, never-unknown}
-use Rattle.histories.proofs.Histories.{call-held}
+use Rattle.histories.proofs.Histories.{accepted-unchanged, call-held}
 use Rattle.events.proofs.Sought.{sought-below}
 use Rattle.histories.proofs.Theorems.{heard-elsewhere}
 
@@ -99,36 +102,37 @@ module _ (p : ℕ) (below : p < 255) (words : List ℕ) (long : length words ≡
   unchanged after e =
       stays-bumped (here .state) here (recordAt after p) (ap (λ (r : Router). r .state) e) (ap (λ (r : Router). r .counts) e)
 
-  stored : (q : ℕ) (r : Router) → q < 255 → Kept (recordAt words q) r → Bumped (recordAt words q) (recordAt words q .state) r
-      → (p ≡ q) ⊎ (p ≡ q → ⊥) → Same (setRecord words q r)
-  stored q r low kept bumped (inl e) =
-      subst (λ (k : ℕ). Bumped (recordAt words k) (recordAt words k .state) (recordAt (setRecord words q r) k)) (sym e)
-      (rw (record-same words q r low long (kept-range words q r kept)) bumped)
-  stored q r low kept bumped (inr n) = unchanged (setRecord words q r) (record-other words q r low long p n)
+  stored : (q : ℕ) (after : List ℕ) (r : Router) → Changed q words after r → Bumped (recordAt words q) (recordAt words q .state) r
+      → (p ≡ q) ⊎ (p ≡ q → ⊥) → Same after
+  stored q after r changed bumped (inl e) =
+      subst (λ (k : ℕ). Bumped (recordAt words k) (recordAt words k .state) (recordAt after k)) (sym e)
+      (rw (changed .here) bumped)
+  stored q after r changed bumped (inr n) = unchanged after (beside-record q words after (changed .beside) p n)
 
   same-test : (t : Bool) (a b : Result) → Same (a .words) → Same (b .words) → Same (cond t a b .words)
   same-test true a b x y = x
   same-test false a b x y = y
 
-  acted : (lists : List ℕ) (q : ℕ) (o : Outcome) (leftover : ℕ) (room : List ℕ) → q < 255 → Kept (recordAt words q) (o .router)
-      → Bumped (recordAt words q) (recordAt words q .state) (o .router) → Same (actedOf words lists q o leftover room .words)
+  acted : (lists : List ℕ) (q : ℕ) (o : Outcome) (leftover : ℕ) (room : List ℕ) → q < 255
+      → Unchanged (recordAt words q) (o .router) → Bumped (recordAt words q) (recordAt words q .state) (o .router)
+      → Same (actedOf words lists q o leftover room .words)
   unfolding actedOf
   acted lists q o leftover room low kept bumped =
       same-test (ltb (length room) (needOf (o .writes) (4 * o .router .count))) _ _ (unchanged words refl)
-      (stored q (o .router) low kept bumped (same-or-not p q))
+      (stored q _ (o .router) (event-changed words q (o .router) low long kept) bumped (same-or-not p q))
 
   pub happened : (f : Found) (lists : List ℕ) (v : ℕ) (e : Event) (room : List ℕ) → routerPlace words v ≡ f
       → Same (happenedAt f words lists e room .words)
   happened Nothing lists v e room s = unchanged words refl
   happened (At q) lists v e room s =
-      acted lists q _ 0 room (sought-below words v q s) (step-keeps (primaryOf words) (recordAt words q) e)
+      acted lists q _ 0 room (sought-below words v q s) (step-unchanged (primaryOf words) (recordAt words q) e)
       (step-bumped (primaryOf words) (recordAt words q) e)
 
   pub clocked : (f : Found) (lists : List ℕ) (v d : ℕ) (room : List ℕ) → routerPlace words v ≡ f
       → Same (clockedAt f words lists d room .words)
   clocked Nothing lists v d room s = unchanged words refl
   clocked (At q) lists v d room s =
-      acted lists q _ _ room (sought-below words v q s) (ticked-keeps (primaryOf words) (recordAt words q) d)
+      acted lists q _ _ room (sought-below words v q s) (ticked-unchanged (primaryOf words) (recordAt words q) d)
       (ticked-bumped (primaryOf words) (recordAt words q) d)
 
   -- one more where it became Master, and nothing heard
@@ -140,9 +144,9 @@ module _ (p : ℕ) (below : p < 255) (words : List ℕ) (long : length words ≡
   abbrev HeardAs : Bool → Result → Type 0
   HeardAs t result =
       recordAt (result .words) p .counts
-      ≡ Bumps (t && eqb (answerNumber (result .answer)) 0) (becomes (here .state) (recordAt (result .words) p .state))
-      (t && eqb (answerNumber (result .answer)) 10) (t && eqb (answerNumber (result .answer)) 11)
-      (t && eqb (answerNumber (result .answer)) 12) (t && eqb (answerNumber (result .answer)) 13) (here .counts)
+      ≡ Bumps (t && eqb (result .answer .number) 0) (becomes (here .state) (recordAt (result .words) p .state))
+      (t && eqb (result .answer .number) 10) (t && eqb (result .answer .number) 11)
+      (t && eqb (result .answer .number) 12) (t && eqb (result .answer .number) 13) (here .counts)
 
   abbrev Heard : Found → Result → Type 0
   Heard f result = HeardAs (isAt f p) result
@@ -151,43 +155,41 @@ module _ (p : ℕ) (below : p < 255) (words : List ℕ) (long : length words ≡
   heard-test true a b x y = x
   heard-test false a b x y = y
 
-  short : (need : ℕ) (room : List ℕ) → HeardAs true (record { answer = Short need; words = words; room = room })
-  short need room = form words (unchanged words refl)
+  no-room : (need : ℕ) (room : List ℕ) → HeardAs true (record { answer = short need; words = words; room = room })
+  no-room need room = form words (unchanged words refl)
 
-  done : (r : Router) (need leftover : ℕ) (room : List ℕ) → Kept here r → Bumped (acceptedOf here) (here .state) r
-      → HeardAs true (record { answer = Done need leftover; words = setRecord words p r; room = room })
-  done r need leftover room kept bumped =
-      rw (record-same words p r below long (kept-range words p r kept)) (bumped ∙ accepted-form (becomes (here .state) (r .state)) (here .counts))
+  all-done : (r : Router) (need leftover : ℕ) (room : List ℕ) → Unchanged here r → Bumped (acceptedOf here) (here .state) r
+      → HeardAs true (record { answer = done need leftover; words = setEvent words p r; room = room })
+  all-done r need leftover room same bumped =
+      rw (event-changed words p r below long same .here)
+      (bumped ∙ accepted-form (becomes (here .state) (r .state)) (here .counts))
 
   accepted : (lists : List ℕ) (f : Fields) (room : List ℕ) → HeardAs true (actedOf words lists p (acceptedAt words p f) 0 room)
   unfolding actedOf
   accepted lists f room =
-      let e = Packet (f .priority) (f .source) in
-      let k = step-keeps (primaryOf words) (acceptedOf here) e in
       let o = acceptedAt words p f in
       let need = needOf (o .writes) (4 * o .router .count) in
-      heard-test (ltb (length room) need) _ _ (short need room)
-      (done (o .router) need 0 room
-      (record { vrid = k .vrid; priority = k .priority; interval = k .interval; preempt = k .preempt; count = k .count })
-      (step-bumped (primaryOf words) (acceptedOf here) e))
+      heard-test (ltb (length room) need) _ _ (no-room need room)
+      (all-done (o .router) need 0 room (accepted-unchanged words p f)
+      (step-bumped (primaryOf words) (acceptedOf here) (Packet (f .priority) (f .source))))
 
   refused-form : (n : ℕ) (t z : Bool) → t ≡ false → z ≡ false → refusedCounts (here .counts) n
       ≡ Bumps z t (eqb n 10) (eqb n 11) (eqb n 12) (eqb n 13) (here .counts)
   refused-form n t z e f = rw (e, f)
 
-  refused : (n : ℕ) (room : List ℕ) → (n ≡ 0 → ⊥) → HeardAs true (refuses n (setRecord words p (refusedOf here n)) room)
-  refused n room other =
-      let kept : Kept here (refusedOf here n) =
-      record { vrid = refl; priority = refl; interval = refl; preempt = refl; count = refl } in
-      rw (record-same words p (refusedOf here n) below long (kept-range words p (refusedOf here n) kept))
-      (refused-form n (becomes (here .state) (here .state)) (eqb n 0) (becomes-self (here .state)) (ne-eqb n 0 other))
+  refused : (n : ℕ) (room : List ℕ) → 10 ≤ n → n ≤ 13 → HeardAs true (refuses n (countAtPlace words p n) room)
+  refused n room least most =
+      rw (count-changed words p n below long least most .here)
+      (refused-form n (becomes (here .state) (here .state)) (eqb n 0) (becomes-self (here .state)) (ne-eqb n 0 (λ z. omega arith)))
 
   heard-here-test : (t : Bool) (lists bytes : List ℕ) (f : Fields) (room : List ℕ) → eqb (refusalAt words lists p bytes f) 0 ≡ t
       → HeardAs true
       (cond t (actedOf words lists p (acceptedAt words p f) 0 room)
-      (refuses (refusalAt words lists p bytes f) (setRecord words p (refusedOf here (refusalAt words lists p bytes f))) room))
+      (refuses (refusalAt words lists p bytes f) (countAtPlace words p (refusalAt words lists p bytes f)) room))
   heard-here-test true lists bytes f room e = accepted lists f room
-  heard-here-test false lists bytes f room e = refused (refusalAt words lists p bytes f) room (eqb-false _ 0 e)
+  heard-here-test false lists bytes f room e =
+      let range = refused-range words lists bytes p f _ refl (eqb-false (refusalAt words lists p bytes f) 0 e) in
+      refused (refusalAt words lists p bytes f) room (range .0) (range .1)
 
   heard-at : (q : ℕ) (lists bytes : List ℕ) (f : Fields) (room : List ℕ) → routerPlace words (f .vrid) ≡ At q
       → (p ≡ q) ⊎ (p ≡ q → ⊥) → Heard (At q) (heardAt words lists q bytes f room)
@@ -198,7 +200,7 @@ module _ (p : ℕ) (below : p < 255) (words : List ℕ) (long : length words ≡
   heard-at q lists bytes f room s (inr n) =
       subst (λ (t : Bool). HeardAs t (heardAt words lists q bytes f room)) (sym (ne-eqb q p (λ z. n (sym z))))
       (form (heardAt words lists q bytes f room .words)
-      (unchanged _ (heard-elsewhere (At q) words lists bytes f room p s long (λ z. n (sym (at-same q p z))))))
+      (unchanged _ (heard-elsewhere (At q) words lists bytes f room p (λ z. n (sym (at-same q p z))))))
 
   sought : (f : Found) (lists bytes : List ℕ) (fields : Fields) (room : List ℕ) → routerPlace words (fields .vrid) ≡ f
       → Heard f (soughtAt f words lists bytes fields room)

@@ -8,7 +8,7 @@ use Prim.Native.Nat.{ℕ, _*_, _/_, _≤_, _<_}
 use native.Mathlib.Omega.{arith}
 use lib.Dec.{eqb, ltb}
 use lib.ListN.{length}
-use borrow.Author.Tests.{eqb-true}
+use borrow.Author.Tests.{eqb-true, eqb-false}
 use Rattle.judging.specs.declared.Fields.{Fields}
 use Rattle.judging.specs.declared.Judged.{Judged}
 use Rattle.judging.specs.declared.Judged.the-variants.{Accepted, Refused}
@@ -18,29 +18,62 @@ use Rattle.states.specs.declared.record.Router.{Router}
 use Rattle.states.specs.declared.step.Event.{Event}
 use Rattle.states.specs.declared.step.Outcome.{Outcome}
 use Rattle.states.specs.Step.{stepOf}
-use Rattle.router.specs.Accept.{refusedOf}
 use Rattle.router.specs.Clock.{tickedOf}
 use Rattle.output.specs.Output.{needOf}
 use Rattle.places.specs.declared.place.Found.{Found}
 use Rattle.places.specs.declared.place.Found.the-variants.{At, Nothing}
-use Rattle.places.specs.Place.{primaryOf, recordAt, setRecord, placeOf}
+use Rattle.places.specs.Place.{primaryOf, recordAt, setRecord, countAtPlace, placeOf}
+use Rattle.places.proofs.Beside.{beside-record}
+use Rattle.places.proofs.Events.{event-beside, count-beside}
 use Rattle.places.proofs.Finding.{found}
 use Rattle.places.proofs.Parts.{part-other, apart}
 use Rattle.places.proofs.Records.{record-other}
 use Rattle.places.proofs.Words.{count-record}
 use Rattle.events.specs.Lists.{listAt, setList}
-use Rattle.events.specs.Result.{Result, routerPlace, actedOf}
+use Rattle.events.specs.declared.answer.Answered.{Answered}
+use Rattle.events.specs.declared.answer.Answered.the-variants.{Done, Refused as CallRefused, Short}
+use Rattle.events.specs.declared.answer.Told.{Told}
+use Rattle.events.specs.declared.answer.Told.the-variants.{Of, Refused as ToldRefused}
+use Rattle.events.specs.Result.{Answer, answerOf, Proper, Result, refuses, routerPlace, actedOf}
 use Rattle.configuring.specs.Configuring.{placeIn, newRouter, freed, configureRefusal, removeRefusal}
-use Rattle.events.specs.Events.{happenedAt, happenedOf, clockedAt, clockedOf}
+use Rattle.events.specs.Events.{happenedAt, happenedOf, clockedAt, clockedOf, Status, statusOf, ProperTold}
 use Rattle.packets.specs.Packets.{refusalAt, acceptedAt, soughtAt, judgedAt, heardOf}
-use Rattle.histories.specs.Theorems.{OneResult, OneConfiguring, OneRemoving, EventElsewhere, ClockElsewhere, PacketElsewhere}
+use Rattle.packets.proofs.Heard.{refused-range}
+use Rattle.histories.specs.Theorems.{OneResult, OneStatus, OneConfiguring, OneRemoving, EventElsewhere, ClockElsewhere, PacketElsewhere}
 use Rattle.histories.specs.Theorems.{ConfigureElsewhere, ListElsewhere, RemoveElsewhere, LowestFreePlace}
 use Rattle.configuring.proofs.Configures.{configure-most, never-full, never-unknown}
 use Rattle.events.proofs.Sought.{sought-below}
 
+-- an answer is one value of the enum
+one-answer : (a b : Answered) → Proper a → Proper b → answerOf a ≡ answerOf b → a ≡ b
+one-answer (Done w l) (Done x k) p q e = rw (ap (λ (c : Answer). c .written) e, ap (λ (c : Answer). c .leftover) e)
+one-answer (Done w l) (CallRefused n) p q e = absurd (q .0 (sym (ap (λ (c : Answer). c .number) e)))
+one-answer (Done w l) (Short need) p q e =
+    absurd (let z : _≡_ {A = ℕ} 0 22 = ap (λ (c : Answer). c .number) e in omega arith)
+one-answer (CallRefused n) (Done x k) p q e = absurd (p .0 (ap (λ (c : Answer). c .number) e))
+one-answer (CallRefused n) (CallRefused m) p q e = ap CallRefused (ap (λ (c : Answer). c .number) e)
+one-answer (CallRefused n) (Short need) p q e = absurd (p .1 (ap (λ (c : Answer). c .number) e))
+one-answer (Short need) (Done x k) p q e =
+    absurd (let z : _≡_ {A = ℕ} 22 0 = ap (λ (c : Answer). c .number) e in omega arith)
+one-answer (Short need) (CallRefused n) p q e = absurd (q .1 (sym (ap (λ (c : Answer). c .number) e)))
+one-answer (Short need) (Short other) p q e = ap Short (ap (λ (c : Answer). c .need) e)
+
 pub one-result : OneResult
-one-result result a b words other room otherRoom x y =
-    (x .answer-is ∙ sym (y .answer-is), x .words-are ∙ sym (y .words-are), x .room-is ∙ sym (y .room-is))
+one-result result a b words other room otherRoom x y = (
+  one-answer a b (x .proper) (y .proper) (x .answer-is ∙ sym (y .answer-is)),
+  x .words-are ∙ sym (y .words-are),
+  x .room-is ∙ sym (y .room-is),
+)
+
+-- and so is a status
+told-test : (a b : Told) → ProperTold a → ProperTold b → statusOf a ≡ statusOf b → a ≡ b
+told-test (Of r) (Of s) p q e = ap Of (ap (λ (x : Status). x .router) e)
+told-test (Of r) (ToldRefused n) p q e = absurd (q (sym (ap (λ (x : Status). x .number) e)))
+told-test (ToldRefused n) (Of s) p q e = absurd (p (ap (λ (x : Status). x .number) e))
+told-test (ToldRefused n) (ToldRefused m) p q e = ap ToldRefused (ap (λ (x : Status). x .number) e)
+
+pub one-status : OneStatus
+one-status status a b x y = told-test a b (x .proper) (y .proper) (x .status-is ∙ sym (y .status-is))
 
 pub one-configuring : OneConfiguring
 one-configuring words lists vrid priority interval preempt addresses a b after other listsAfter listsOther x y =
@@ -56,58 +89,66 @@ either-elsewhere true a b words q x y = x
 either-elsewhere false a b words q x y = y
 
 -- what acts at a place leaves every other place as it was
-acted-elsewhere : (words lists : List ℕ) (p : ℕ) (o : Outcome) (leftover : ℕ) (room : List ℕ) (q : ℕ) → p < 255 → length words ≡ 4096
-    → (q ≡ p → ⊥) → recordAt (actedOf words lists p o leftover room .words) q ≡ recordAt words q
+acted-elsewhere : (words lists : List ℕ) (p : ℕ) (o : Outcome) (leftover : ℕ) (room : List ℕ) (q : ℕ) → (q ≡ p → ⊥)
+    → recordAt (actedOf words lists p o leftover room .words) q ≡ recordAt words q
 unfolding actedOf
-acted-elsewhere words lists p o leftover room q below long n =
+acted-elsewhere words lists p o leftover room q n =
     either-elsewhere (ltb (length room) (needOf (o .writes) (4 * o .router .count))) _ _ words q refl
-    (record-other words p (o .router) below long q n)
+    (beside-record p words _ (event-beside words p (o .router)) q n)
 
-happened-elsewhere : (f : Found) (words lists : List ℕ) (v q : ℕ) (e : Event) (room : List ℕ) → routerPlace words v ≡ f
-    → length words ≡ 4096 → (f ≡ At q → ⊥) → recordAt (happenedAt f words lists e room .words) q ≡ recordAt words q
-happened-elsewhere Nothing words lists v q e room s long n = refl
-happened-elsewhere (At p) words lists v q e room s long n =
-    acted-elsewhere words lists p (stepOf (primaryOf words) (recordAt words p) e) 0 room q (sought-below words v p s) long
-    (λ z. n (ap At (sym z)))
+happened-elsewhere : (f : Found) (words lists : List ℕ) (q : ℕ) (e : Event) (room : List ℕ) → (f ≡ At q → ⊥)
+    → recordAt (happenedAt f words lists e room .words) q ≡ recordAt words q
+happened-elsewhere Nothing words lists q e room n = refl
+happened-elsewhere (At p) words lists q e room n =
+    acted-elsewhere words lists p (stepOf (primaryOf words) (recordAt words p) e) 0 room q (λ z. n (ap At (sym z)))
 
 pub event-elsewhere : EventElsewhere
 unfolding happenedOf
-event-elsewhere words lists v q e room long n = happened-elsewhere (routerPlace words v) words lists v q e room refl long n
+event-elsewhere words lists v q e room n = happened-elsewhere (routerPlace words v) words lists q e room n
 
-clocked-elsewhere : (f : Found) (words lists : List ℕ) (v q d : ℕ) (room : List ℕ) → routerPlace words v ≡ f
-    → length words ≡ 4096 → (f ≡ At q → ⊥) → recordAt (clockedAt f words lists d room .words) q ≡ recordAt words q
-clocked-elsewhere Nothing words lists v q d room s long n = refl
-clocked-elsewhere (At p) words lists v q d room s long n =
+clocked-elsewhere : (f : Found) (words lists : List ℕ) (q d : ℕ) (room : List ℕ) → (f ≡ At q → ⊥)
+    → recordAt (clockedAt f words lists d room .words) q ≡ recordAt words q
+clocked-elsewhere Nothing words lists q d room n = refl
+clocked-elsewhere (At p) words lists q d room n =
     acted-elsewhere words lists p (tickedOf (primaryOf words) (recordAt words p) d .outcome)
     (tickedOf (primaryOf words) (recordAt words p) d .leftover)
-    room q (sought-below words v p s) long (λ z. n (ap At (sym z)))
+    room q (λ z. n (ap At (sym z)))
 
 pub clock-elsewhere : ClockElsewhere
 unfolding clockedOf
-clock-elsewhere words lists v q d room long n = clocked-elsewhere (routerPlace words v) words lists v q d room refl long n
+clock-elsewhere words lists v q d room n = clocked-elsewhere (routerPlace words v) words lists q d room n
 
-pub heard-elsewhere : (f : Found) (words lists bytes : List ℕ) (fields : Fields) (room : List ℕ) (q : ℕ)
-    → routerPlace words (fields .vrid) ≡ f → length words ≡ 4096 → (f ≡ At q → ⊥)
+-- a refusal of 10 to 13 is counted at its place
+counted-elsewhere : (t : Bool) (words lists bytes : List ℕ) (p : ℕ) (f : Fields) (room : List ℕ) (q : ℕ) → (q ≡ p → ⊥)
+    → eqb (refusalAt words lists p bytes f) 0 ≡ t
+    → recordAt
+    (cond t (actedOf words lists p (acceptedAt words p f) 0 room)
+    (refuses (refusalAt words lists p bytes f) (countAtPlace words p (refusalAt words lists p bytes f)) room) .words) q
+    ≡ recordAt words q
+counted-elsewhere true words lists bytes p f room q n e = acted-elsewhere words lists p (acceptedAt words p f) 0 room q n
+counted-elsewhere false words lists bytes p f room q n e =
+    let number = refusalAt words lists p bytes f in
+    let range = refused-range words lists bytes p f number refl (eqb-false number 0 e) in
+    beside-record p words _ (count-beside words p number (range .0) (range .1)) q n
+
+pub heard-elsewhere : (f : Found) (words lists bytes : List ℕ) (fields : Fields) (room : List ℕ) (q : ℕ) → (f ≡ At q → ⊥)
     → recordAt (soughtAt f words lists bytes fields room .words) q ≡ recordAt words q
-heard-elsewhere Nothing words lists bytes fields room q s long n = count-record words 9 (omega arith) q
-heard-elsewhere (At p) words lists bytes fields room q s long n =
-    let below = sought-below words (fields .vrid) p s in
-    let other : q ≡ p → ⊥ = λ z. n (ap At (sym z)) in
-    either-elsewhere (eqb (refusalAt words lists p bytes fields) 0) _ _ words q
-    (acted-elsewhere words lists p (acceptedAt words p fields) 0 room q below long other)
-    (record-other words p (refusedOf (recordAt words p) (refusalAt words lists p bytes fields)) below long q other)
+heard-elsewhere Nothing words lists bytes fields room q n = count-record words 9 (omega arith) q
+heard-elsewhere (At p) words lists bytes fields room q n =
+    counted-elsewhere (eqb (refusalAt words lists p bytes fields) 0) words lists bytes p fields room q
+    (λ z. n (ap At (sym z))) refl
 
-judged-elsewhere : (j : Judged) (words lists bytes room : List ℕ) (q : ℕ) → judgedOf bytes ≡ j → length words ≡ 4096
+judged-elsewhere : (j : Judged) (words lists bytes room : List ℕ) (q : ℕ) → judgedOf bytes ≡ j
     → ((fields : Fields) → j ≡ Accepted fields → routerPlace words (fields .vrid) ≡ At q → ⊥)
     → recordAt (judgedAt j words lists bytes room .words) q ≡ recordAt words q
-judged-elsewhere (Refused number) words lists bytes room q e long n =
+judged-elsewhere (Refused number) words lists bytes room q e n =
     count-record words number (omega (arith, refused-most bytes number (sym e))) q
-judged-elsewhere (Accepted fields) words lists bytes room q e long n =
-    heard-elsewhere (routerPlace words (fields .vrid)) words lists bytes fields room q refl long (n fields refl)
+judged-elsewhere (Accepted fields) words lists bytes room q e n =
+    heard-elsewhere (routerPlace words (fields .vrid)) words lists bytes fields room q (n fields refl)
 
 pub packet-elsewhere : PacketElsewhere
 unfolding heardOf
-packet-elsewhere words lists bytes room q long n = judged-elsewhere (judgedOf bytes) words lists bytes room q refl long n
+packet-elsewhere words lists bytes room q n = judged-elsewhere (judgedOf bytes) words lists bytes room q refl n
 
 -- a record put at a place that was found, where nothing is refused
 put-elsewhere : (t : Bool) (f : Found) (words : List ℕ) (r : Router) (q : ℕ) → ((p : ℕ) → f ≡ At p → p < 255)

@@ -1,6 +1,5 @@
 -- The counts of a virtual router over a history (01, 'Counts').
-use Prim.Native.Nat.{ℕ, _+_, _%_, _^_, _<_}
-use mathlib.Core.Path.{_≡_}
+use Prim.Native.Nat.{ℕ, _+_, _%_, _^_}
 use mathlib.Core.List.{List, [], _∷_}
 use mathlib.Core.Bool.{Bool, true, false, cond, not, _&&_}
 use lib.Dec.{eqb}
@@ -13,11 +12,10 @@ use Rattle.states.specs.declared.record.Counts.{Counts}
 use Rattle.places.specs.declared.place.Found.{Found}
 use Rattle.places.specs.declared.place.Found.the-variants.{At, Nothing}
 use Rattle.places.specs.Place.{recordAt, placeOf}
-use Rattle.events.specs.Result.{answerNumber, routerPlace}
+use Rattle.events.specs.Result.{routerPlace}
 use Rattle.configuring.specs.Configuring.{noCounts, configureRefusal, removeRefusal}
 use Rattle.packets.specs.Packets.{heardOf}
-use Rattle.histories.specs.Histories.{Call, configure, remove, startup, shutdown, clock, packet, Memory, called, after}
-use Rattle.histories.specs.Histories.{begun, GivenAll}
+use Rattle.histories.specs.Histories.{Call, configure, remove, startup, shutdown, clock, packet, Memory, called}
 
 -- "times it became Master": it was not, and is
 abbrev pub isMaster : State → Bool
@@ -47,7 +45,7 @@ hears place m (shutdown vrid room) number = false
 hears place m (clock vrid ticks room) number = false
 hears place m (packet bytes room) number =
     isAt (addressee (m .words) (judgedOf bytes)) place
-    && eqb (answerNumber (heardOf (m .words) (m .lists) bytes room .answer)) number
+    && eqb (heardOf (m .words) (m .lists) bytes room .answer .number) number
 
 -- whether the router at a place becomes Master by a call
 abbrev pub becomesMaster : ℕ → Memory → Call → Bool
@@ -96,10 +94,3 @@ modulo n =
       list = n .list % 2 ^ 32;
       interval = n .interval % 2 ^ 32;
     }
-
--- the counts at every place are, modulo 2^32, the numbers of such events since its router was configured
-abbrev pub RouterCounts : Type 0
-RouterCounts =
-    (primary : ℕ) (lists : List ℕ) (history : List Call) → GivenAll history → (place : ℕ) → place < 255
-    → recordAt (after (begun primary lists) history .words) place .counts
-    ≡ modulo (tallyOf place (begun primary lists) history noCounts)

@@ -5,10 +5,10 @@ use mathlib.Core.List.{List, [], _∷_}
 use mathlib.Core.Bool.{Bool, cond}
 use lib.Dec.{eqb}
 use lib.ListN.{getD}
+use Rattle.sums.specs.Sum.{Bytes}
 use Rattle.states.specs.declared.step.Event.the-variants.{Startup, Shutdown}
 use Rattle.router.specs.Timed.{Timed}
 use Rattle.places.specs.Place.{baseOf, recordAt}
-use Rattle.events.specs.Result.{answerNumber}
 use Rattle.configuring.specs.Configuring.{emptyOf, configuredWords, configuredLists, removedWords}
 use Rattle.events.specs.Events.{happenedOf, clockedOf, interfaceCount}
 use Rattle.packets.specs.Packets.{heardOf}
@@ -22,9 +22,10 @@ pub data Call : Type 0 where
   clock : (vrid ticks : ℕ) (room : List ℕ) → Call
   packet : (bytes room : List ℕ) → Call
 
--- "VRID, priority and interval come as bytes"
+-- "VRID, priority and interval come as bytes", and so do addresses
 abbrev pub Given : Call → Type 0
-Given (configure vrid priority interval preempt addresses) = (vrid < 256) × (priority < 256) × (interval < 256)
+Given (configure vrid priority interval preempt addresses) =
+    (vrid < 256) × (priority < 256) × (interval < 256) × Bytes addresses
 Given (remove vrid) = Unit
 Given (startup vrid room) = Unit
 Given (shutdown vrid room) = Unit
@@ -77,15 +78,11 @@ pub record Sound (words : List ℕ) (p : ℕ) : Type 0 where
   pub named : getD words (baseOf p) 0 ≡ recordAt words p .vrid
   -- a timer runs exactly in Backup and Master, is then at least 1, and at most what the formulas allow
   pub timed : Timed (recordAt words p)
-  -- a router in use has an interval and a priority of at least 1
+  -- a router in use has an interval and a priority of at least 1, and "1 to 16 virtual addresses"
   pub configured : (getD words (baseOf p) 0 ≡ 0 → ⊥) → (1 ≤ recordAt words p .interval) × (1 ≤ recordAt words p .priority)
-
--- after every history of calls from an empty table: VRIDs are unique, and every place is sound
-abbrev pub AfterEveryHistory : Type 0
-AfterEveryHistory =
-    (primary : ℕ) (lists : List ℕ) (history : List Call) → GivenAll history
-    → Unique (after (begun primary lists) history .words)
-    × ((p : ℕ) → p < 255 → Sound (after (begun primary lists) history .words) p)
+      × (1 ≤ recordAt words p .count) × (recordAt words p .count ≤ 16)
+  -- a free place holds nothing
+  pub free : getD words (baseOf p) 0 ≡ 0 → (k : ℕ) → k < 16 → getD words (baseOf p + k) 0 ≡ 0
 
 -- 1 where a call is a packet that is answered by this number, else 0
 abbrev pub answeredBy : ℕ → Memory → Call → ℕ
@@ -95,16 +92,9 @@ answeredBy number m (startup vrid room) = 0
 answeredBy number m (shutdown vrid room) = 0
 answeredBy number m (clock vrid ticks room) = 0
 answeredBy number m (packet bytes room) =
-    cond (eqb (answerNumber (heardOf (m .words) (m .lists) bytes room .answer)) number) 1 0
+    cond (eqb (heardOf (m .words) (m .lists) bytes room .answer .number) number) 1 0
 
 -- how many packets of a history are answered by a number
 abbrev pub refusalsIn : ℕ → Memory → List Call → ℕ
 refusalsIn number m [] = 0
 refusalsIn number m (call ∷ rest) = answeredBy number m call + refusalsIn number (called m call) rest
-
--- "Per interface: 1 to 9": each is, modulo 2^32, how many packets were so refused since the table was made
-abbrev pub InterfaceCounts : Type 0
-InterfaceCounts =
-    (primary : ℕ) (lists : List ℕ) (history : List Call) → GivenAll history → (number : ℕ) → 1 ≤ number → number ≤ 9
-    → interfaceCount (after (begun primary lists) history .words) number
-    ≡ refusalsIn number (begun primary lists) history % 2 ^ 32

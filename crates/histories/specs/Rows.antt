@@ -20,12 +20,9 @@ use Rattle.router.specs.Accept.{routerChecks}
 use Rattle.router.specs.Clock.{tickedOf}
 use Rattle.output.specs.Output.{needOf}
 use Rattle.places.specs.Place.{primaryOf, recordAt}
-use Rattle.events.specs.declared.answer.Answered.{Answered}
-use Rattle.events.specs.declared.answer.Answered.the-variants.{Done, Refused, Short}
-use Rattle.events.specs.declared.answer.Told.{Told}
-use Rattle.events.specs.declared.answer.Told.the-variants.{Of, Refused as ToldRefused}
 use Rattle.events.specs.Lists.{listAt, theirList, listsMatch}
-use Rattle.events.specs.Result.{routerPlace}
+use Rattle.events.specs.Result.{Answer, done, short, refusal, routerPlace}
+use Rattle.events.specs.Events.{Status, noRouter}
 use Rattle.configuring.specs.Configuring.{isFound, placeIn}
 use Rattle.packets.specs.Packets.{acceptedAt}
 
@@ -91,18 +88,13 @@ abbrev pub packetChecks : List ℕ → List ℕ → List ℕ → List ℕ → Li
 packetChecks words lists bytes room = judgingChecks bytes ++ tableChecks words lists bytes room
 
 -- "A refusal answers its number, 22 also with the room needed"; 0 is done, with the bytes that were written and the leftover
-abbrev pub answerBy : ℕ → ℕ → ℕ → Answered
+abbrev pub answerBy : ℕ → ℕ → ℕ → Answer
 answerBy number need leftover =
-    cond (eqb number 0) (Done need leftover) (cond (eqb number 22) (Short need) (Refused number))
+    cond (eqb number 0) (done need leftover) (cond (eqb number 22) (short need) (refusal number))
 
 -- "A question about a VRID answers its state, its remaining timer (0 in Initialize) and its counts", as its record has them
-abbrev pub toldBy : ℕ → Router → Told
-toldBy number router = cond (eqb number 0) (Of router) (ToldRefused number)
-
--- 01's number for the answer to a question
-abbrev pub toldNumber : Told → ℕ
-toldNumber (Of router) = 0
-toldNumber (ToldRefused number) = number
+abbrev pub statusBy : ℕ → Router → Status
+statusBy number router = record { number = number; router = cond (eqb number 0) router noRouter }
 
 -- a number is one of these
 abbrev pub OneOf : List ℕ → ℕ → Type 0

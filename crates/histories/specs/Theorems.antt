@@ -1,6 +1,6 @@
 -- The theorems of this crate, as statements: each is proved under the same name in proofs/Theorems.antt or,
 -- from the answers on, in proofs/Rows.antt.
-use Prim.Native.Nat.{ℕ, _≤_, _<_}
+use Prim.Native.Nat.{ℕ, _%_, _^_, _≤_, _<_}
 use mathlib.Core.Path.{_≡_}
 use mathlib.Core.Logic.{_↔_}
 use mathlib.Core.List.{List, [], _∷_}
@@ -14,20 +14,27 @@ use Rattle.states.specs.declared.step.Event.{Event}
 use Rattle.places.specs.declared.place.Found.the-variants.{At}
 use Rattle.places.specs.Place.{baseOf, recordAt, placeOf}
 use Rattle.events.specs.declared.answer.Answered.{Answered}
+use Rattle.events.specs.declared.answer.Told.{Told}
 use Rattle.events.specs.Lists.{listAt}
-use Rattle.events.specs.Result.{Result, Leaves, answerNumber, routerPlace}
-use Rattle.configuring.specs.Configuring.{Configured, configuredWords, configuredLists, Removed, removedWords}
+use Rattle.events.specs.Result.{Result, Leaves, routerPlace}
+use Rattle.configuring.specs.Configuring.{noCounts, Configured, configuredWords, configuredLists, Removed, removedWords}
 use Rattle.configuring.specs.Configuring.{configureChecks, configureRefusal, removeChecks, removeRefusal}
-use Rattle.events.specs.Events.{happenedOf, clockedOf, toldOf}
+use Rattle.events.specs.Events.{happenedOf, clockedOf, Status, askedOf, Tells, interfaceCount}
 use Rattle.packets.specs.Packets.{heardOf}
+use Rattle.histories.specs.Histories.{Call, after, begun, GivenAll, Unique, Sound, refusalsIn}
+use Rattle.histories.specs.Counts.{tallyOf, modulo}
 use Rattle.histories.specs.Rows.{recordFor, needs, eventOutcome, eventChecks, clockTicked, clockChecks, questionChecks}
-use Rattle.histories.specs.Rows.{packetOutcome, packetChecks, answerBy, toldBy, toldNumber, OneOf}
+use Rattle.histories.specs.Rows.{packetOutcome, packetChecks, answerBy, statusBy, OneOf}
 
 -- two outcomes that the promise of a call allows are equal: startup, shutdown, clock and packet
 abbrev pub OneResult : Type 0
 OneResult =
     (result : Result) (a b : Answered) (words other room otherRoom : List ℕ) → Leaves result a words room
     → Leaves result b other otherRoom → (a ≡ b) × (words ≡ other) × (room ≡ otherRoom)
+
+-- the same of a question
+abbrev pub OneStatus : Type 0
+OneStatus = (status : Status) (a b : Told) → Tells status a → Tells status b → a ≡ b
 
 -- the same of configuring
 abbrev pub OneConfiguring : Type 0
@@ -47,21 +54,21 @@ OneRemoving =
 -- "A call for one VRID leaves every other router's record as it was": startup and shutdown, whatever the memory
 abbrev pub EventElsewhere : Type 0
 EventElsewhere =
-    (words lists : List ℕ) (vrid place : ℕ) (event : Event) (room : List ℕ) → length words ≡ 4096
+    (words lists : List ℕ) (vrid place : ℕ) (event : Event) (room : List ℕ)
     → (routerPlace words vrid ≡ At place → ⊥)
     → recordAt (happenedOf words lists vrid event room .words) place ≡ recordAt words place
 
 -- and a clock step
 abbrev pub ClockElsewhere : Type 0
 ClockElsewhere =
-    (words lists : List ℕ) (vrid place ticks : ℕ) (room : List ℕ) → length words ≡ 4096
+    (words lists : List ℕ) (vrid place ticks : ℕ) (room : List ℕ)
     → (routerPlace words vrid ≡ At place → ⊥)
     → recordAt (clockedOf words lists vrid ticks room .words) place ≡ recordAt words place
 
 -- and a packet: every place but that of the VRID it carries
 abbrev pub PacketElsewhere : Type 0
 PacketElsewhere =
-    (words lists bytes room : List ℕ) (place : ℕ) → length words ≡ 4096
+    (words lists bytes room : List ℕ) (place : ℕ)
     → ((fields : Fields) → judgedOf bytes ≡ Accepted fields → routerPlace words (fields .vrid) ≡ At place → ⊥)
     → recordAt (heardOf words lists bytes room .words) place ≡ recordAt words place
 
@@ -95,6 +102,27 @@ LowestFreePlace =
     (words : List ℕ) (place : ℕ) → placeOf words 0 ≡ At place
     → (place < 255) × Free words place × ((other : ℕ) → other < place → Free words other → ⊥)
 
+-- after every history of calls from an empty table: VRIDs are unique, and every place is sound
+abbrev pub AfterEveryHistory : Type 0
+AfterEveryHistory =
+    (primary : ℕ) (lists : List ℕ) (history : List Call) → GivenAll history
+    → Unique (after (begun primary lists) history .words)
+    × ((p : ℕ) → p < 255 → Sound (after (begun primary lists) history .words) p)
+
+-- "Per interface: 1 to 9": each is, modulo 2^32, how many packets were so refused since the table was made
+abbrev pub InterfaceCounts : Type 0
+InterfaceCounts =
+    (primary : ℕ) (lists : List ℕ) (history : List Call) → GivenAll history → (number : ℕ) → 1 ≤ number → number ≤ 9
+    → interfaceCount (after (begun primary lists) history .words) number
+    ≡ refusalsIn number (begun primary lists) history % 2 ^ 32
+
+-- the counts at every place are, modulo 2^32, the numbers of such events since its router was configured
+abbrev pub RouterCounts : Type 0
+RouterCounts =
+    (primary : ℕ) (lists : List ℕ) (history : List Call) → GivenAll history → (place : ℕ) → place < 255
+    → recordAt (after (begun primary lists) history .words) place .counts
+    ≡ modulo (tallyOf place (begun primary lists) history noCounts)
+
 -- "A refusal answers its number": the number of a call's answer is that of the first of its checks that fails, 0 where none
 -- does. "Configuring checks 14 to 19 in that order"
 abbrev pub ConfigureAnswers : Type 0
@@ -111,23 +139,23 @@ RemoveAnswers = (words : List ℕ) (vrid : ℕ) → removeRefusal words vrid ≡
 abbrev pub EventAnswers : Type 0
 EventAnswers =
     (words lists : List ℕ) (vrid : ℕ) (event : Event) (room : List ℕ)
-    → answerNumber (happenedOf words lists vrid event room .answer) ≡ firstRefusal (eventChecks words vrid event room)
+    → happenedOf words lists vrid event room .answer .number ≡ firstRefusal (eventChecks words vrid event room)
 
 -- a clock step
 abbrev pub ClockAnswers : Type 0
 ClockAnswers =
     (words lists : List ℕ) (vrid ticks : ℕ) (room : List ℕ)
-    → answerNumber (clockedOf words lists vrid ticks room .answer) ≡ firstRefusal (clockChecks words vrid ticks room)
+    → clockedOf words lists vrid ticks room .answer .number ≡ firstRefusal (clockChecks words vrid ticks room)
 
 -- "Packets, checked in this order"; "For a packet 22 comes after 13"
 abbrev pub PacketAnswers : Type 0
 PacketAnswers =
     (words lists bytes room : List ℕ)
-    → answerNumber (heardOf words lists bytes room .answer) ≡ firstRefusal (packetChecks words lists bytes room)
+    → heardOf words lists bytes room .answer .number ≡ firstRefusal (packetChecks words lists bytes room)
 
 -- a question
 abbrev pub QuestionAnswers : Type 0
-QuestionAnswers = (words : List ℕ) (vrid : ℕ) → toldNumber (toldOf words vrid) ≡ firstRefusal (questionChecks words vrid)
+QuestionAnswers = (words : List ℕ) (vrid : ℕ) → askedOf words vrid .number ≡ firstRefusal (questionChecks words vrid)
 
 -- a call is done exactly when every check passes: configuring
 abbrev pub ConfigureExactly : Type 0
@@ -144,23 +172,23 @@ RemoveExactly = (words : List ℕ) (vrid : ℕ) → (removeRefusal words vrid �
 abbrev pub EventExactly : Type 0
 EventExactly =
     (words lists : List ℕ) (vrid : ℕ) (event : Event) (room : List ℕ)
-    → (answerNumber (happenedOf words lists vrid event room .answer) ≡ 0) ↔ Passes (eventChecks words vrid event room)
+    → (happenedOf words lists vrid event room .answer .number ≡ 0) ↔ Passes (eventChecks words vrid event room)
 
 -- and a clock step
 abbrev pub ClockExactly : Type 0
 ClockExactly =
     (words lists : List ℕ) (vrid ticks : ℕ) (room : List ℕ)
-    → (answerNumber (clockedOf words lists vrid ticks room .answer) ≡ 0) ↔ Passes (clockChecks words vrid ticks room)
+    → (clockedOf words lists vrid ticks room .answer .number ≡ 0) ↔ Passes (clockChecks words vrid ticks room)
 
 -- and a packet
 abbrev pub PacketExactly : Type 0
 PacketExactly =
     (words lists bytes room : List ℕ)
-    → (answerNumber (heardOf words lists bytes room .answer) ≡ 0) ↔ Passes (packetChecks words lists bytes room)
+    → (heardOf words lists bytes room .answer .number ≡ 0) ↔ Passes (packetChecks words lists bytes room)
 
 -- and a question
 abbrev pub QuestionExactly : Type 0
-QuestionExactly = (words : List ℕ) (vrid : ℕ) → (toldNumber (toldOf words vrid) ≡ 0) ↔ Passes (questionChecks words vrid)
+QuestionExactly = (words : List ℕ) (vrid : ℕ) → (askedOf words vrid .number ≡ 0) ↔ Passes (questionChecks words vrid)
 
 -- "22 also with the room needed": the whole answer of startup and shutdown, which leave nothing over
 abbrev pub EventValues : Type 0
@@ -187,7 +215,7 @@ PacketValues =
 -- and of a question: the router's record
 abbrev pub QuestionValues : Type 0
 QuestionValues =
-    (words : List ℕ) (vrid : ℕ) → toldOf words vrid ≡ toldBy (firstRefusal (questionChecks words vrid)) (recordFor words vrid)
+    (words : List ℕ) (vrid : ℕ) → askedOf words vrid ≡ statusBy (firstRefusal (questionChecks words vrid)) (recordFor words vrid)
 
 -- the numbers that a call can answer: configuring
 abbrev pub ConfigureNumbers : Type 0
@@ -204,13 +232,13 @@ RemoveNumbers = (words : List ℕ) (vrid : ℕ) → OneOf (0 ∷ (20 ∷ (21 ∷
 abbrev pub EventNumbers : Type 0
 EventNumbers =
     (words lists : List ℕ) (vrid : ℕ) (event : Event) (room : List ℕ)
-    → OneOf (0 ∷ (20 ∷ (22 ∷ []))) (answerNumber (happenedOf words lists vrid event room .answer))
+    → OneOf (0 ∷ (20 ∷ (22 ∷ []))) (happenedOf words lists vrid event room .answer .number)
 
 -- a clock step
 abbrev pub ClockNumbers : Type 0
 ClockNumbers =
     (words lists : List ℕ) (vrid ticks : ℕ) (room : List ℕ)
-    → OneOf (0 ∷ (20 ∷ (22 ∷ []))) (answerNumber (clockedOf words lists vrid ticks room .answer))
+    → OneOf (0 ∷ (20 ∷ (22 ∷ []))) (clockedOf words lists vrid ticks room .answer .number)
 
 -- a packet
 abbrev pub PacketNumbers : Type 0
@@ -218,8 +246,8 @@ PacketNumbers =
     (words lists bytes room : List ℕ)
     → OneOf
     (0 ∷ (1 ∷ (2 ∷ (3 ∷ (4 ∷ (5 ∷ (6 ∷ (7 ∷ (8 ∷ (9 ∷ (10 ∷ (11 ∷ (12 ∷ (13 ∷ (22 ∷ [])))))))))))))))
-    (answerNumber (heardOf words lists bytes room .answer))
+    (heardOf words lists bytes room .answer .number)
 
 -- a question
 abbrev pub QuestionNumbers : Type 0
-QuestionNumbers = (words : List ℕ) (vrid : ℕ) → OneOf (0 ∷ (20 ∷ [])) (toldNumber (toldOf words vrid))
+QuestionNumbers = (words : List ℕ) (vrid : ℕ) → OneOf (0 ∷ (20 ∷ [])) (askedOf words vrid .number)

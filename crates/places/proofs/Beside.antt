@@ -80,12 +80,13 @@ module _ (p : ℕ) (words after : List ℕ) (beside : Beside p words after) wher
   pub beside-first : (q : ℕ) → getD after (baseOf q) 0 ≡ getD words (baseOf q) 0
   beside-first q = beside .outside (baseOf q) (first-test (ltb p q) q p refl)
 
-  -- every other place has the record it had
+  -- every other place has the words it had, and so its record
+  pub beside-word : (q k : ℕ) → (q ≡ p → ⊥) → k < 16 → getD after (baseOf q + k) 0 ≡ getD words (baseOf q + k) 0
+  beside-word q k n h =
+      beside .outside (baseOf q + k) (⊎-elim (λ x. inl (omega arith)) (λ x. inr (omega arith)) (apart q p n))
+
   pub beside-record : (q : ℕ) → (q ≡ p → ⊥) → recordAt after q ≡ recordAt words q
-  beside-record q n =
-      same-record after words q
-      (λ k h.
-      beside .outside (baseOf q + k) (⊎-elim (λ x. inl (omega arith)) (λ x. inr (omega arith)) (apart q p n)))
+  beside-record q n = same-record after words q (λ k h. beside-word q k n h)
 
   -- and so has the interface
   pub beside-count : (number : ℕ) → number ≤ 9 → refusalCount after number ≡ refusalCount words number

@@ -2,7 +2,7 @@
 -- Assumes nothing.
 use mathlib.Core.Path.{_≡_, sym, ap, _∙_}
 use mathlib.Core.List.{List}
-use Prim.Native.Nat.{ℕ, _≤_, _<_}
+use Prim.Native.Nat.{ℕ, _+_, _≤_, _<_}
 use native.Mathlib.Nat.{add-zero}
 use native.Mathlib.Omega.{arith}
 use lib.ListN.{length, getD, take, drop, length-set}
@@ -11,6 +11,7 @@ use Rattle.states.specs.declared.record.Router.{Router}
 use Rattle.states.specs.Step.{counted}
 use Rattle.places.specs.Layout.{decodeOf, encodeOf}
 use Rattle.places.specs.Place.{baseOf, recordAt, setRecord, refusalCount, countRefusal}
+use Rattle.places.proofs.Beside.{part-word}
 use Rattle.places.proofs.Parts.{part-same, part-before}
 use Rattle.places.proofs.Records.{other-part, encode-length}
 
@@ -32,6 +33,20 @@ module _ (words : List ℕ) (p : ℕ) (r : Router) (below : p < 255) (long : len
       ∙ ap (λ (s : List ℕ). getD s 0 0) (other-part words p r below long q n)
       ∙ part-first words (baseOf q) 16 (omega arith)
 
+  -- the words of the place, and of every other
+  pub word-same : (k : ℕ) → k < 16 → getD (setRecord words p r) (baseOf p + k) 0 ≡ getD (encodeOf r) k 0
+  unfolding setRecord
+  word-same k h =
+      sym (part-word (setRecord words p r) p k h)
+      ∙ ap (λ (s : List ℕ). getD s k 0) (part-same words (encodeOf r) (baseOf p) 16 (omega arith) (encode-length r))
+
+  pub word-other : (q k : ℕ) → (q ≡ p → ⊥) → k < 16 → getD (setRecord words p r) (baseOf q + k) 0 ≡ getD words (baseOf q + k) 0
+  unfolding setRecord
+  word-other q k n h =
+      sym (part-word (setRecord words p r) q k h)
+      ∙ ap (λ (s : List ℕ). getD s k 0) (other-part words p r below long q n)
+      ∙ part-word words q k h
+
   -- storing a record leaves the interface's counts as they were
   pub store-count : (number : ℕ) → number ≤ 9 → refusalCount (setRecord words p r) number ≡ refusalCount words number
   unfolding setRecord refusalCount
@@ -46,6 +61,10 @@ module _ (words : List ℕ) (number : ℕ) (small : number ≤ 9) where
   pub count-first : (q : ℕ) → getD (countRefusal words number) (baseOf q) 0 ≡ getD words (baseOf q) 0
   unfolding countRefusal
   count-first q = getD-set-other words number (baseOf q) _ 0 (λ z. omega arith)
+
+  pub count-place : (q k : ℕ) → getD (countRefusal words number) (baseOf q + k) 0 ≡ getD words (baseOf q + k) 0
+  unfolding countRefusal
+  count-place q k = getD-set-other words number (baseOf q + k) _ 0 (λ z. omega arith)
 
   pub count-record : (q : ℕ) → recordAt (countRefusal words number) q ≡ recordAt words q
   unfolding recordAt countRefusal
