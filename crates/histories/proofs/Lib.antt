@@ -2,6 +2,8 @@ pub mod Changed
 pub mod Held
 pub mod Begun
 pub mod Histories
+pub mod Does
+pub mod Stays
 pub mod Counted
 pub mod Became
 pub mod Theorems

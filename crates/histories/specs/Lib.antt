@@ -1,4 +1,5 @@
-pub mod Rows
 pub mod Theorems
 pub mod Histories
 pub mod Counts
+pub mod Standing
+pub mod Rows

@@ -12,7 +12,7 @@ use Rattle.judging.specs.declared.Judged.the-variants.{Accepted}
 use Rattle.judging.specs.Judging.{judgedOf}
 use Rattle.states.specs.declared.step.Event.{Event}
 use Rattle.places.specs.declared.place.Found.the-variants.{At}
-use Rattle.places.specs.Place.{baseOf, recordAt, placeOf}
+use Rattle.places.specs.Place.{baseOf, primaryOf, recordAt, placeOf}
 use Rattle.events.specs.declared.answer.Answered.{Answered}
 use Rattle.events.specs.declared.answer.Told.{Told}
 use Rattle.events.specs.Lists.{listAt}
@@ -21,7 +21,8 @@ use Rattle.configuring.specs.Configuring.{noCounts, Configured, configuredWords
 use Rattle.configuring.specs.Configuring.{configureChecks, configureRefusal, removeChecks, removeRefusal}
 use Rattle.events.specs.Events.{happenedOf, clockedOf, Status, askedOf, Tells, interfaceCount}
 use Rattle.packets.specs.Packets.{heardOf}
-use Rattle.histories.specs.Histories.{Call, after, begun, GivenAll, Unique, Sound, refusalsIn}
+use Rattle.histories.specs.Histories.{Call, configure, called, after, begun, Given, GivenAll, Unique, Sound, refusalsIn}
+use Rattle.histories.specs.Standing.{Standing, NotRemoved}
 use Rattle.histories.specs.Counts.{tallyOf, modulo}
 use Rattle.histories.specs.Rows.{recordFor, needs, eventOutcome, eventChecks, clockTicked, clockChecks, questionChecks}
 use Rattle.histories.specs.Rows.{packetOutcome, packetChecks, answerBy, statusBy, OneOf}
@@ -108,6 +109,23 @@ AfterEveryHistory =
     (primary : ℕ) (lists : List ℕ) (history : List Call) → GivenAll history
     → Unique (after (begun primary lists) history .words)
     × ((p : ℕ) → p < 255 → Sound (after (begun primary lists) history .words) p)
+
+-- "One interface has one primary IPv4 address": after every history it is the one that the table was made with
+abbrev pub PrimaryStays : Type 0
+PrimaryStays =
+    (primary : ℕ) (lists : List ℕ) (history : List Call) → GivenAll history
+    → primaryOf (after (begun primary lists) history .words) ≡ primary
+
+-- what was configured stays until it is removed: after any history, a configuration that is not refused, and any calls of
+-- which none removes it
+abbrev pub ConfiguredStays : Type 0
+ConfiguredStays =
+    (primary : ℕ) (lists : List ℕ) (history rest : List Call) (vrid priority interval : ℕ) (preempt : Bool) (addresses : List ℕ)
+    → length lists ≡ 16320 → GivenAll history → Given (configure vrid priority interval preempt addresses) → GivenAll rest
+    → configureRefusal (after (begun primary lists) history .words) vrid priority interval addresses ≡ 0
+    → NotRemoved vrid (called (after (begun primary lists) history) (configure vrid priority interval preempt addresses)) rest
+    → Standing (after (called (after (begun primary lists) history) (configure vrid priority interval preempt addresses)) rest)
+    vrid priority interval preempt addresses
 
 -- "Per interface: 1 to 9": each is, modulo 2^32, how many packets were so refused since the table was made
 abbrev pub InterfaceCounts : Type 0

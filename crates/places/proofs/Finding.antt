@@ -96,3 +96,17 @@ missing-from words v i (suc n) e =
 pub missing : (words : List ℕ) (v : ℕ) → placeOf words v ≡ Nothing → (q : ℕ) → q < 255 → getD words (baseOf q) 0 ≡ v → ⊥
 unfolding placeOf
 missing words v e q h c = missing-from words v 0 255 e q (omega arith) (omega arith) c
+
+-- where the same places have the word, the same place is found
+same-from : (a b : List ℕ) (v i n : ℕ) → ((q : ℕ) → eqb (getD a (baseOf q) 0) v ≡ eqb (getD b (baseOf q) 0) v)
+    → placeFrom a v i n ≡ placeFrom b v i n
+unfolding placeFrom
+same-from a b v i zero h = refl
+same-from a b v i (suc n) h =
+    ap (λ (t : Bool). cond t (At i) (placeFrom a v (suc i) n)) (h i)
+    ∙ ap (λ (f : Found). cond (eqb (getD b (baseOf i) 0) v) (At i) f) (same-from a b v (suc i) n h)
+
+pub same-place : (a b : List ℕ) (v : ℕ) → ((q : ℕ) → eqb (getD a (baseOf q) 0) v ≡ eqb (getD b (baseOf q) 0) v)
+    → placeOf a v ≡ placeOf b v
+unfolding placeOf
+same-place a b v h = same-from a b v 0 255 h
