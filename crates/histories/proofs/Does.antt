@@ -36,41 +36,42 @@ use Rattle.histories.specs.Histories.{Call, configure, remove, startup, 
 use Rattle.histories.proofs.Changed.{Changed, event-changed, count-changed}
 use Rattle.histories.proofs.Histories.{accepted-unchanged}
 
-pub data Does (words lists : List ℕ) : List ℕ → List ℕ → Type 0 where
-  same : Does words lists words lists
-  counts : (n : ℕ) → 1 ≤ n → n ≤ 9 → Does words lists (countRefusal words n) lists
-  changes : (v p : ℕ) (after : List ℕ) (r : Router) → routerPlace words v ≡ At p → Changed p words after r → Does words lists after lists
+pub data Does (words lists : List ℕ) (gone : ℕ) : List ℕ → List ℕ → Type 0 where
+  same : Does words lists gone words lists
+  counts : (n : ℕ) → 1 ≤ n → n ≤ 9 → Does words lists gone (countRefusal words n) lists
+  changes : (v p : ℕ) (after : List ℕ) (r : Router) → routerPlace words v ≡ At p → Changed p words after r → Does words lists gone after lists
   configures : (v priority interval : ℕ) (preempt : Bool) (addresses : List ℕ) (p : ℕ)
       → configureRefusal words v priority interval addresses ≡ 0 → placeOf words 0 ≡ At p
-      → Does words lists (setRecord words p (newRouter v priority interval preempt (length addresses / 4))) (setList lists p addresses)
-  frees : (v p : ℕ) → removeRefusal words v ≡ 0 → routerPlace words v ≡ At p → Does words lists (setRecord words p freed) lists
+      → Does words lists gone (setRecord words p (newRouter v priority interval preempt (length addresses / 4)))
+      (setList lists p addresses)
+  frees : (p : ℕ) → removeRefusal words gone ≡ 0 → routerPlace words gone ≡ At p → Does words lists gone (setRecord words p freed) lists
 
-module _ (words lists : List ℕ) (long : length words ≡ 4096) where
-  either : (t : Bool) (a b : Result) → Does words lists (a .words) lists → Does words lists (b .words) lists
-      → Does words lists (cond t a b .words) lists
+module _ (words lists : List ℕ) (gone : ℕ) (long : length words ≡ 4096) where
+  either : (t : Bool) (a b : Result) → Does words lists gone (a .words) lists → Does words lists gone (b .words) lists
+      → Does words lists gone (cond t a b .words) lists
   either true a b x y = x
   either false a b x y = y
 
   acted : (v p : ℕ) (o : Outcome) (leftover : ℕ) (room : List ℕ) → routerPlace words v ≡ At p
-      → Unchanged (recordAt words p) (o .router) → Does words lists (actedOf words lists p o leftover room .words) lists
+      → Unchanged (recordAt words p) (o .router) → Does words lists gone (actedOf words lists p o leftover room .words) lists
   unfolding actedOf
   acted v p o leftover room s same-as =
       either (ltb (length room) (needOf (o .writes) (4 * o .router .count))) _ _ same
       (changes v p _ (o .router) s (event-changed words p (o .router) (sought-below words v p s) long same-as))
 
   happened : (f : Found) (v : ℕ) (e : Event) (room : List ℕ) → routerPlace words v ≡ f
-      → Does words lists (happenedAt f words lists e room .words) lists
+      → Does words lists gone (happenedAt f words lists e room .words) lists
   happened Nothing v e room s = same
   happened (At p) v e room s = acted v p _ 0 room s (step-unchanged (primaryOf words) (recordAt words p) e)
 
   clocked : (f : Found) (v d : ℕ) (room : List ℕ) → routerPlace words v ≡ f
-      → Does words lists (clockedAt f words lists d room .words) lists
+      → Does words lists gone (clockedAt f words lists d room .words) lists
   clocked Nothing v d room s = same
   clocked (At p) v d room s = acted v p _ _ room s (ticked-unchanged (primaryOf words) (recordAt words p) d)
 
   heard : (t : Bool) (p : ℕ) (bytes : List ℕ) (f : Fields) (room : List ℕ) → routerPlace words (f .vrid) ≡ At p
       → eqb (refusalAt words lists p bytes f) 0 ≡ t
-      → Does words lists
+      → Does words lists gone
       (cond t (actedOf words lists p (acceptedAt words p f) 0 room)
       (refuses (refusalAt words lists p bytes f) (countAtPlace words p (refusalAt words lists p bytes f)) room) .words)
       lists
@@ -81,18 +82,18 @@ module _ (words lists : List ℕ) (long : length words ≡ 4096) where
       changes (f .vrid) p _ _ s (count-changed words p n (sought-below words (f .vrid) p s) long (range .0) (range .1))
 
   sought : (f : Found) (bytes : List ℕ) (fields : Fields) (room : List ℕ) → routerPlace words (fields .vrid) ≡ f
-      → Does words lists (soughtAt f words lists bytes fields room .words) lists
+      → Does words lists gone (soughtAt f words lists bytes fields room .words) lists
   sought Nothing bytes fields room s = counts 9 (omega arith) (omega arith)
   sought (At p) bytes fields room s = heard (eqb (refusalAt words lists p bytes fields) 0) p bytes fields room s refl
 
-  judged : (j : Judged) (bytes room : List ℕ) → judgedOf bytes ≡ j → Does words lists (judgedAt j words lists bytes room .words) lists
+  judged : (j : Judged) (bytes room : List ℕ) → judgedOf bytes ≡ j → Does words lists gone (judgedAt j words lists bytes room .words) lists
   judged (Refused n) bytes room e =
       counts n (omega (arith, refused-least bytes n (sym e))) (omega (arith, refused-most bytes n (sym e)))
   judged (Accepted fields) bytes room e = sought (routerPlace words (fields .vrid)) bytes fields room refl
 
   configured : (t : Bool) (f : Found) (v priority interval : ℕ) (preempt : Bool) (addresses : List ℕ) → placeOf words 0 ≡ f
       → eqb (configureRefusal words v priority interval addresses) 0 ≡ t
-      → Does words lists
+      → Does words lists gone
       (cond t (setRecord words (placeIn f) (newRouter v priority interval preempt (length addresses / 4))) words)
       (cond t (setList lists (placeIn f) addresses) lists)
   configured false f v priority interval preempt addresses s e = same
@@ -101,20 +102,30 @@ module _ (words lists : List ℕ) (long : length words ≡ 4096) where
   configured true (At p) v priority interval preempt addresses s e =
       configures v priority interval preempt addresses p (eqb-true (configureRefusal words v priority interval addresses) 0 e) s
 
-  removed : (t : Bool) (f : Found) (v : ℕ) → routerPlace words v ≡ f → eqb (removeRefusal words v) 0 ≡ t
-      → Does words lists (cond t (setRecord words (placeIn f) freed) words) lists
-  removed false f v s e = same
-  removed true Nothing v s e = absurd (never-unknown words v (eqb-true (removeRefusal words v) 0 e) s)
-  removed true (At p) v s e = frees v p (eqb-true (removeRefusal words v) 0 e) s
+  removed : (t : Bool) (f : Found) → routerPlace words gone ≡ f → eqb (removeRefusal words gone) 0 ≡ t
+      → Does words lists gone (cond t (setRecord words (placeIn f) freed) words) lists
+  removed false f s e = same
+  removed true Nothing s e = absurd (never-unknown words gone (eqb-true (removeRefusal words gone) 0 e) s)
+  removed true (At p) s e = frees p (eqb-true (removeRefusal words gone) 0 e) s
+
+-- the virtual router that a call is to remove, 0 where it is to remove none
+abbrev pub goneBy : Call → ℕ
+goneBy (configure v priority interval preempt addresses) = 0
+goneBy (remove v) = v
+goneBy (startup v room) = 0
+goneBy (shutdown v room) = 0
+goneBy (clock v d room) = 0
+goneBy (packet bytes room) = 0
 
 pub call-does : (m : Memory) (call : Call) → length (m .words) ≡ 4096
-    → Does (m .words) (m .lists) (called m call .words) (called m call .lists)
+    → Does (m .words) (m .lists) (goneBy call) (called m call .words) (called m call .lists)
 unfolding happenedOf clockedOf heardOf
 call-does m (configure v priority interval preempt addresses) long =
-    configured (m .words) (m .lists) long (eqb (configureRefusal (m .words) v priority interval addresses) 0) (placeOf (m .words) 0)
-    v priority interval preempt addresses refl refl
-call-does m (remove v) long = removed (m .words) (m .lists) long (eqb (removeRefusal (m .words) v) 0) (routerPlace (m .words) v) v refl refl
-call-does m (startup v room) long = happened (m .words) (m .lists) long (routerPlace (m .words) v) v Startup room refl
-call-does m (shutdown v room) long = happened (m .words) (m .lists) long (routerPlace (m .words) v) v Shutdown room refl
-call-does m (clock v d room) long = clocked (m .words) (m .lists) long (routerPlace (m .words) v) v d room refl
-call-does m (packet bytes room) long = judged (m .words) (m .lists) long (judgedOf bytes) bytes room refl
+    configured (m .words) (m .lists) 0 long (eqb (configureRefusal (m .words) v priority interval addresses) 0)
+    (placeOf (m .words) 0) v priority interval preempt addresses refl refl
+call-does m (remove v) long =
+    removed (m .words) (m .lists) v long (eqb (removeRefusal (m .words) v) 0) (routerPlace (m .words) v) refl refl
+call-does m (startup v room) long = happened (m .words) (m .lists) 0 long (routerPlace (m .words) v) v Startup room refl
+call-does m (shutdown v room) long = happened (m .words) (m .lists) 0 long (routerPlace (m .words) v) v Shutdown room refl
+call-does m (clock v d room) long = clocked (m .words) (m .lists) 0 long (routerPlace (m .words) v) v d room refl
+call-does m (packet bytes room) long = judged (m .words) (m .lists) 0 long (judgedOf bytes) bytes room refl

@@ -3,9 +3,9 @@ pub mod Held
 pub mod Begun
 pub mod Histories
 pub mod Does
-pub mod Stays
 pub mod Counted
 pub mod Became
 pub mod Theorems
 pub mod Tallied
 pub mod Rows
+pub mod Stays

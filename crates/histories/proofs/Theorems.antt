@@ -168,7 +168,7 @@ configure-elsewhere words v priority interval preempt addresses q long n =
     long n
 
 -- address lists stand side by side, 64 bytes each
-list-other : (lists addresses : List ℕ) (p q n : ℕ) → length lists ≡ 16320 → p < 255 → length addresses ≤ 64 → n ≤ 16
+pub list-other : (lists addresses : List ℕ) (p q n : ℕ) → length lists ≡ 16320 → p < 255 → length addresses ≤ 64 → n ≤ 16
     → (q ≡ p → ⊥) → listAt (setList lists p addresses) q n ≡ listAt lists q n
 unfolding listAt setList
 list-other lists addresses p q n long below most few e =
