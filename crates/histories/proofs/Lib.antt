@@ -9,3 +9,4 @@ pub mod Theorems
 pub mod Tallied
 pub mod Rows
 pub mod Stays
+pub mod Standing

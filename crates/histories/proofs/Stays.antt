@@ -107,7 +107,7 @@ pub record Still (words lists w l : List ℕ) (v p : ℕ) : Type 0 where
   pub list : (n : ℕ) → n ≤ 16 → listAt l p n ≡ listAt lists p n
 
 -- a router as it was
-as-it-was : (r : Router) → Kept r r
+pub as-it-was : (r : Router) → Kept r r
 as-it-was r = record { vrid = refl; priority = refl; interval = refl; preempt = refl; count = refl }
 
 module _ (words lists : List ℕ) (held : Held words) (long : length lists ≡ 16320) (v p : ℕ) (at : routerPlace words v ≡ At p) where

@@ -13,6 +13,7 @@ use Rattle.places.specs.declared.place.Found.{Found}
 use Rattle.places.specs.declared.place.Found.the-variants.{At, Nothing}
 use Rattle.places.specs.Place.{recordAt, placeOf}
 use Rattle.events.specs.Result.{routerPlace}
+use Rattle.events.specs.Events.{askedOf}
 use Rattle.configuring.specs.Configuring.{noCounts, configureRefusal, removeRefusal}
 use Rattle.packets.specs.Packets.{heardOf}
 use Rattle.histories.specs.Histories.{Call, configure, remove, startup, shutdown, clock, packet, Memory, called}
@@ -94,3 +95,53 @@ modulo n =
       list = n .list % 2 ^ 32;
       interval = n .interval % 2 ^ 32;
     }
+
+-- The same by VRID, as a question tells the counts.
+
+-- whether a judged packet is for a virtual router
+abbrev pub isFor : ℕ → Judged → Bool
+isFor vrid (Refused number) = false
+isFor vrid (Accepted fields) = eqb (fields .vrid) vrid
+
+-- whether a call is a packet for a virtual router, answered by this number; 0 is "accepted"
+abbrev pub hearsBy : ℕ → Memory → Call → ℕ → Bool
+hearsBy vrid m (configure v priority interval preempt addresses) number = false
+hearsBy vrid m (remove v) number = false
+hearsBy vrid m (startup v room) number = false
+hearsBy vrid m (shutdown v room) number = false
+hearsBy vrid m (clock v ticks room) number = false
+hearsBy vrid m (packet bytes room) number =
+    isFor vrid (judgedOf bytes) && eqb (heardOf (m .words) (m .lists) bytes room .answer .number) number
+
+-- whether a virtual router becomes Master by a call
+abbrev pub becomesMasterBy : ℕ → Memory → Call → Bool
+becomesMasterBy vrid m call =
+    becomes (askedOf (m .words) vrid .router .state) (askedOf (called m call .words) vrid .router .state)
+
+-- whether a call configures or removes a virtual router
+abbrev pub beginsBy : ℕ → Memory → Call → Bool
+beginsBy vrid m (configure v priority interval preempt addresses) =
+    eqb v vrid && eqb (configureRefusal (m .words) v priority interval addresses) 0
+beginsBy vrid m (remove v) = eqb v vrid && eqb (removeRefusal (m .words) v) 0
+beginsBy vrid m (startup v room) = false
+beginsBy vrid m (shutdown v room) = false
+beginsBy vrid m (clock v ticks room) = false
+beginsBy vrid m (packet bytes room) = false
+
+-- the numbers of events after one more call
+abbrev pub talliedBy : ℕ → Memory → Call → Counts → Counts
+talliedBy vrid m call n =
+    cond (beginsBy vrid m call) noCounts
+    (record {
+      accepted = more (hearsBy vrid m call 0) (n .accepted);
+      became = more (becomesMasterBy vrid m call) (n .became);
+      owner = more (hearsBy vrid m call 10) (n .owner);
+      authentication = more (hearsBy vrid m call 11) (n .authentication);
+      list = more (hearsBy vrid m call 12) (n .list);
+      interval = more (hearsBy vrid m call 13) (n .interval);
+    })
+
+-- and after a history
+abbrev pub tallyBy : ℕ → Memory → List Call → Counts → Counts
+tallyBy vrid m [] n = n
+tallyBy vrid m (call ∷ rest) n = tallyBy vrid (called m call) rest (talliedBy vrid m call n)

@@ -23,7 +23,7 @@ use Rattle.events.specs.Events.{happenedOf, clockedOf, Status, askedOf, Tells, 
 use Rattle.packets.specs.Packets.{heardOf}
 use Rattle.histories.specs.Histories.{Call, configure, called, after, begun, Given, GivenAll, Unique, Sound, refusalsIn}
 use Rattle.histories.specs.Standing.{Standing, NotRemoved}
-use Rattle.histories.specs.Counts.{tallyOf, modulo}
+use Rattle.histories.specs.Counts.{tallyOf, tallyBy, modulo}
 use Rattle.histories.specs.Rows.{recordFor, needs, eventOutcome, eventChecks, clockTicked, clockChecks, questionChecks}
 use Rattle.histories.specs.Rows.{packetOutcome, packetChecks, answerBy, statusBy, OneOf}
 
@@ -140,6 +140,13 @@ RouterCounts =
     (primary : ℕ) (lists : List ℕ) (history : List Call) → GivenAll history → (place : ℕ) → place < 255
     → recordAt (after (begun primary lists) history .words) place .counts
     ≡ modulo (tallyOf place (begun primary lists) history noCounts)
+
+-- and so are the counts that a question tells, of every virtual router
+abbrev pub ToldCounts : Type 0
+ToldCounts =
+    (primary : ℕ) (lists : List ℕ) (history : List Call) → length lists ≡ 16320 → GivenAll history → (vrid : ℕ)
+    → askedOf (after (begun primary lists) history .words) vrid .router .counts
+    ≡ modulo (tallyBy vrid (begun primary lists) history noCounts)
 
 -- "A refusal answers its number": the number of a call's answer is that of the first of its checks that fails, 0 where none
 -- does. "Configuring checks 14 to 19 in that order"
