@@ -55,7 +55,7 @@ pub only-place : (words : List ℕ) → Held words → (v p : ℕ) → p < 255 �
 only-place words held v p below w some = only-test (routerPlace words v) words held v p below w some refl
 
 -- a call that does not remove a virtual router leaves it where it stands
-module _ (m : Memory) (held : Held (m .words)) (long : length (m .lists) ≡ 16320) (v p : ℕ) (at : routerPlace (m .words) v ≡ At p) where
+module _ (m : Memory) (held : Held (m .words)) (v p : ℕ) (at : routerPlace (m .words) v ≡ At p) where
   abbrev StillBy : Call → Type 0
   StillBy call = Still (m .words) (m .lists) (called m call .words) (called m call .lists) v p
 
@@ -63,7 +63,7 @@ module _ (m : Memory) (held : Held (m .words)) (long : length (m .lists) ≡ 163
   some z = sought-word (m .words) v p at .2 (sym z)
 
   by : (call : Call) → ¬ (goneBy call ≡ v) → StillBy call
-  by call other = still (m .words) (m .lists) held long v p at (goneBy call) _ _ other (call-does m call (held .long))
+  by call other = still (m .words) (m .lists) held v p at (goneBy call) _ _ other (call-does m call (held .long))
 
   -- a remove that is for it is refused
   remove-test : (s t : Bool) (u : ℕ) → eqb u v ≡ s → eqb (removeRefusal (m .words) u) 0 ≡ t → (s && t) ≡ false → StillBy (remove u)
@@ -74,7 +74,7 @@ module _ (m : Memory) (held : Held (m .words)) (long : length (m .lists) ≡ 163
       record {
         place = ap (λ (w : List ℕ). routerPlace w v) unchanged ∙ at;
         kept = rw unchanged (as-it-was (recordAt (m .words) p));
-        list = λ n few. refl;
+        list = λ long n few. refl;
       }
 
   pub call-still : (call : Call) → removes v m call ≡ false → StillBy call
@@ -91,7 +91,7 @@ stands-on : (m : Memory) → Held (m .words) → length (m .lists) ≡ 16320 →
     → Standing (called m call) v priority interval preempt addresses
 stands-on m held long v priority interval preempt addresses call n s =
     let p = s .place in
-    let t = call-still m held long v p (s .found) call n in
+    let t = call-still m held v p (s .found) call n in
     record {
       place = p;
       found = t .place;
@@ -101,7 +101,7 @@ stands-on m held long v priority interval preempt addresses call n s =
       count-is = t .kept .count ∙ s .count-is;
       addresses-are =
           ap (λ (k : ℕ). listAt (called m call .lists) p k) (t .kept .count)
-          ∙ t .list (recordAt (m .words) p .count) (omega (arith, read-in-range (m .words) p .count))
+          ∙ t .list long (recordAt (m .words) p .count) (omega (arith, read-in-range (m .words) p .count))
           ∙ s .addresses-are;
     }
 
@@ -138,7 +138,7 @@ list-back lists addresses p below long most fours =
     rw fours (part-same lists addresses (64 * p) (length addresses) (omega arith) refl)
 
 -- where it is configured
-module _ (m : Memory) (held : Held (m .words)) (long : length (m .lists) ≡ 16320) (v priority interval : ℕ) (preempt : Bool)
+module _ (m : Memory) (held : Held (m .words)) (v priority interval : ℕ) (preempt : Bool)
     (addresses : List ℕ) (given : Given (configure v priority interval preempt addresses))
     (none : configureRefusal (m .words) v priority interval addresses ≡ 0) where
   abbrev fresh : Router
@@ -147,26 +147,35 @@ module _ (m : Memory) (held : Held (m .words)) (long : length (m .lists) ≡ 163
   abbrev then : Memory
   then = called m (configure v priority interval preempt addresses)
 
-  begins-at : (f : Found) → placeOf (m .words) 0 ≡ f → Standing then v priority interval preempt addresses
+  -- at the lowest free place
+  pub fresh-at : (p : ℕ) → placeOf (m .words) 0 ≡ At p → (routerPlace (then .words) v ≡ At p) × (recordAt (then .words) p ≡ fresh)
   unfolding configureRefusal
-  begins-at Nothing s = absurd (never-full (m .words) [] v priority interval preempt addresses none s)
-  begins-at (At p) s =
+  fresh-at p s =
       let checks = passed (configureChecks (m .words) v priority interval addresses) (omega arith) none in
       let most = configure-most (m .words) [] v priority interval preempt addresses none in
       let below : p < 255 = omega (arith, found (m .words) 0 p s .below) in
       let words : then .words ≡ setRecord (m .words) p fresh = rw (none, s) in
-      let lists : then .lists ≡ setList (m .lists) p addresses = rw (none, s) in
-      let is-fresh : recordAt (then .words) p ≡ fresh
-      = ap (λ (w : List ℕ). recordAt w p) words
-      ∙ record-same (m .words) p fresh below (held .long)
-      (record { vrid = given .0; priority = given .1; interval = given .2; count = omega arith }) in
       let first : getD (then .words) (baseOf p) 0 ≡ v
-      = ap (λ (w : List ℕ). getD w (baseOf p) 0) words ∙ first-same (m .words) p fresh below (held .long) in
+      = ap (λ (w : List ℕ). getD w (baseOf p) 0) words ∙ first-same (m .words) p fresh below (held .long) in (
+        only-place (then .words) (call-held m (configure v priority interval preempt addresses) given held) v p below first
+            (eqb-false v 0 (checks .0)),
+        ap (λ (w : List ℕ). recordAt w p) words
+            ∙ record-same (m .words) p fresh below (held .long)
+            (record { vrid = given .0; priority = given .1; interval = given .2; count = omega arith }),
+      )
+
+  begins-at : (f : Found) → length (m .lists) ≡ 16320 → placeOf (m .words) 0 ≡ f → Standing then v priority interval preempt addresses
+  unfolding configureRefusal
+  begins-at Nothing long s = absurd (never-full (m .words) [] v priority interval preempt addresses none s)
+  begins-at (At p) long s =
+      let checks = passed (configureChecks (m .words) v priority interval addresses) (omega arith) none in
+      let most = configure-most (m .words) [] v priority interval preempt addresses none in
+      let below : p < 255 = omega (arith, found (m .words) 0 p s .below) in
+      let lists : then .lists ≡ setList (m .lists) p addresses = rw (none, s) in
+      let is-fresh = fresh-at p s .1 in
       record {
         place = p;
-        found =
-            only-place (then .words) (call-held m (configure v priority interval preempt addresses) given held) v p below first
-            (eqb-false v 0 (checks .0));
+        found = fresh-at p s .0;
         priority-is = ap (λ (r : Router). r .priority) is-fresh;
         interval-is = ap (λ (r : Router). r .interval) is-fresh;
         preempt-is = ap (λ (r : Router). r .preempt) is-fresh;
@@ -177,8 +186,8 @@ module _ (m : Memory) (held : Held (m .words)) (long : length (m .lists) ≡ 163
             ∙ list-back (m .lists) addresses p below long most (in-fours addresses (checks .1 .1 .1 .0));
       }
 
-  pub configured-stands : Standing then v priority interval preempt addresses
-  configured-stands = begins-at (placeOf (m .words) 0) refl
+  configured-stands : length (m .lists) ≡ 16320 → Standing then v priority interval preempt addresses
+  configured-stands long = begins-at (placeOf (m .words) 0) long refl
 
 pub configured-stays : ConfiguredStays
 configured-stays primary lists history rest v priority interval preempt addresses long g given h none kept =
@@ -188,4 +197,4 @@ configured-stays primary lists history rest v priority interval preempt addresse
     let call = configure v priority interval preempt addresses in
     history-stands (called m call) rest h (call-held m call given held)
     (does-long (m .words) (m .lists) 0 _ _ lists-long (call-does m call (held .long))) v priority interval preempt addresses kept
-    (configured-stands m held lists-long v priority interval preempt addresses given none)
+    (configured-stands m held v priority interval preempt addresses given none lists-long)

@@ -76,13 +76,13 @@ does-long words lists gone w l long (configures v priority interval preempt addr
 does-long words lists gone w l long (frees p e s) = long
 
 -- a virtual router is found where it was if the same places have its number
-same-router : (a b : List ℕ) (v : ℕ) → ((q : ℕ) → eqb (getD a (baseOf q) 0) v ≡ eqb (getD b (baseOf q) 0) v)
+pub same-router : (a b : List ℕ) (v : ℕ) → ((q : ℕ) → eqb (getD a (baseOf q) 0) v ≡ eqb (getD b (baseOf q) 0) v)
     → routerPlace a v ≡ routerPlace b v
 unfolding routerPlace
 same-router a b v h = ap (λ (f : Found). cond (eqb v 0) Nothing f) (same-place a b v h)
 
 -- so it is where another record is stored at a place that neither had nor has its number
-stored-test : (words : List ℕ) (q : ℕ) (r : Router) (v : ℕ) → q < 255 → length words ≡ 4096 → ¬ (r .vrid ≡ v)
+pub stored-test : (words : List ℕ) (q : ℕ) (r : Router) (v : ℕ) → q < 255 → length words ≡ 4096 → ¬ (r .vrid ≡ v)
     → ¬ (getD words (baseOf q) 0 ≡ v) → (k : ℕ) → (k ≡ q) ⊎ (k ≡ q → ⊥)
     → eqb (getD (setRecord words q r) (baseOf k) 0) v ≡ eqb (getD words (baseOf k) 0) v
 stored-test words q r v below long new old k (inl e) =
@@ -104,18 +104,18 @@ sought-found words v p e = found-test (eqb v 0) words v p e
 pub record Still (words lists w l : List ℕ) (v p : ℕ) : Type 0 where
   pub place : routerPlace w v ≡ At p
   pub kept : Kept (recordAt words p) (recordAt w p)
-  pub list : (n : ℕ) → n ≤ 16 → listAt l p n ≡ listAt lists p n
+  pub list : length lists ≡ 16320 → (n : ℕ) → n ≤ 16 → listAt l p n ≡ listAt lists p n
 
 -- a router as it was
 pub as-it-was : (r : Router) → Kept r r
 as-it-was r = record { vrid = refl; priority = refl; interval = refl; preempt = refl; count = refl }
 
-module _ (words lists : List ℕ) (held : Held words) (long : length lists ≡ 16320) (v p : ℕ) (at : routerPlace words v ≡ At p) where
+module _ (words lists : List ℕ) (held : Held words) (v p : ℕ) (at : routerPlace words v ≡ At p) where
   word : (p < 255) × (getD words (baseOf p) 0 ≡ v) × (v ≡ 0 → ⊥)
   word = sought-word words v p at
 
   -- "18 VRID already in the table"
-  new-number : (u priority interval : ℕ) (addresses : List ℕ) → configureRefusal words u priority interval addresses ≡ 0 → u ≡ v → ⊥
+  pub new-number : (u priority interval : ℕ) (addresses : List ℕ) → configureRefusal words u priority interval addresses ≡ 0 → u ≡ v → ⊥
   unfolding configureRefusal
   new-number u priority interval addresses e z =
       let checks = passed (configureChecks words u priority interval addresses) (omega arith) e in
@@ -138,7 +138,7 @@ module _ (words lists : List ℕ) (held : Held words) (long : length lists ≡ 1
 
   -- storing a record for another virtual router, or for none, at another place
   stored-still : (q u : ℕ) (r : Router) (l : List ℕ) → q < 255 → getD words (baseOf q) 0 ≡ u → ¬ (u ≡ v) → ¬ (r .vrid ≡ v)
-      → ((n : ℕ) → n ≤ 16 → listAt l p n ≡ listAt lists p n) → Still words lists (setRecord words q r) l v p
+      → (length lists ≡ 16320 → (n : ℕ) → n ≤ 16 → listAt l p n ≡ listAt lists p n) → Still words lists (setRecord words q r) l v p
   stored-still q u r l below e n new list =
       let old : ¬ (getD words (baseOf q) 0 ≡ v) = λ z. n (sym e ∙ z) in
       record {
@@ -151,18 +151,18 @@ module _ (words lists : List ℕ) (held : Held words) (long : length lists ≡ 1
       }
 
   pub still : (gone : ℕ) (w l : List ℕ) → ¬ (gone ≡ v) → Does words lists gone w l → Still words lists w l v p
-  still gone w l other same = record { place = at; kept = as-it-was (recordAt words p); list = λ n few. refl }
+  still gone w l other same = record { place = at; kept = as-it-was (recordAt words p); list = λ long n few. refl }
   still gone w l other (counts n least most) =
       record {
         place = same-router w words v (λ q. ap (λ (x : ℕ). eqb x v) (count-first words n most q)) ∙ at;
         kept = same-kept w (count-record words n most p);
-        list = λ n few. refl;
+        list = λ long n few. refl;
       }
   still gone w l other (changes u q after r s c) =
       record {
         place = same-router w words v (λ k. ap (λ (x : ℕ). eqb x v) (beside-first q words w (c .beside) k)) ∙ at;
         kept = changed-kept q w r c (same-or-not p q);
-        list = λ n few. refl;
+        list = λ long n few. refl;
       }
   still gone w l other (configures u priority interval preempt addresses q e s) =
       let free = found words 0 q s in
@@ -170,7 +170,7 @@ module _ (words lists : List ℕ) (held : Held words) (long : length lists ≡ 1
       let most = configure-most words [] u priority interval preempt addresses e in
       let some : ¬ (0 ≡ v) = λ z. word .2 (sym z) in
       stored-still q 0 _ l below (free .word) some (λ z. new-number u priority interval addresses e z)
-      (λ n few. list-other lists addresses q p n long below most few (elsewhere q 0 (free .word) some))
+      (λ long n few. list-other lists addresses q p n long below most few (elsewhere q 0 (free .word) some))
   still gone w l other (frees q e s) =
       let there = sought-word words gone q s in
-      stored-still q gone freed l (there .0) (there .1) other (λ z. word .2 (sym z)) (λ n few. refl)
+      stored-still q gone freed l (there .0) (there .1) other (λ z. word .2 (sym z)) (λ long n few. refl)

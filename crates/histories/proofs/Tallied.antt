@@ -51,7 +51,7 @@ use Rattle.events.proofs.Sought.{sought-below}
 use Rattle.histories.proofs.Theorems.{heard-elsewhere}
 
 -- each count one higher where its event happened
-abbrev Bumps : Bool → Bool → Bool → Bool → Bool → Bool → Counts → Counts
+abbrev pub Bumps : Bool → Bool → Bool → Bool → Bool → Bool → Counts → Counts
 Bumps a b o u l i c =
     record {
       accepted = cond a (counted (c .accepted)) (c .accepted);
@@ -239,7 +239,7 @@ module _ (p : ℕ) (below : p < 255) (words : List ℕ) (long : length words ≡
   put true (At q) r low good none = put-at q r (low q refl) (good refl .1) none (same-or-not p q)
 
 -- the numbers after a call
-tally-test : (t a b o u l i : Bool) (n : Counts) → cond t noCounts (Bumps a b o u l i (modulo n))
+pub tally-test : (t a b o u l i : Bool) (n : Counts) → cond t noCounts (Bumps a b o u l i (modulo n))
     ≡ modulo
     (cond t noCounts
     (record {
@@ -254,14 +254,14 @@ tally-test true a b o u l i n = refl
 tally-test false a b o u l i n = bumps-tally a b o u l i n
 
 module _ (p : ℕ) (below : p < 255) where
-  abbrev Follows : Memory → Call → Counts → Type 0
+  abbrev pub Follows : Memory → Call → Counts → Type 0
   Follows m call c =
       recordAt (called m call .words) p .counts
       ≡ cond (begins p m call) noCounts
       (Bumps (hears p m call 0) (becomesMaster p m call) (hears p m call 10) (hears p m call 11) (hears p m call 12)
       (hears p m call 13) c)
 
-  call-follows : (m : Memory) (call : Call) → Given call → length (m .words) ≡ 4096 → Follows m call (recordAt (m .words) p .counts)
+  pub call-follows : (m : Memory) (call : Call) → Given call → length (m .words) ≡ 4096 → Follows m call (recordAt (m .words) p .counts)
   unfolding happenedOf clockedOf heardOf
   call-follows m (configure v priority interval preempt addresses) g long =
       let w = m .words in

@@ -144,7 +144,7 @@ RouterCounts =
 -- and so are the counts that a question tells, of every virtual router
 abbrev pub ToldCounts : Type 0
 ToldCounts =
-    (primary : ℕ) (lists : List ℕ) (history : List Call) → length lists ≡ 16320 → GivenAll history → (vrid : ℕ)
+    (primary : ℕ) (lists : List ℕ) (history : List Call) → GivenAll history → (vrid : ℕ)
     → askedOf (after (begun primary lists) history .words) vrid .router .counts
     ≡ modulo (tallyBy vrid (begun primary lists) history noCounts)
 
