@@ -18,7 +18,7 @@ use Rattle.places.specs.Place.{baseOf, setRecord, placeOf}
 use Rattle.places.proofs.Finding.{find-hit, found}
 use Rattle.events.specs.declared.answer.Answered.the-variants.{Done, Refused}
 use Rattle.events.specs.Lists.{setList}
-use Rattle.events.specs.Result.{answerNumber}
+use Rattle.events.specs.Result.{answerOf}
 use Rattle.configuring.specs.Configuring.{emptyOf, newRouter, freed, configureRefusal}
 use Rattle.histories.proofs.Begun.{empty-record, empty-held}
 use Rattle.station.specs.declared.station.Stepped.{Stepped}
@@ -104,7 +104,7 @@ module _ (primary : ℕ) (r : Router) (addresses : List ℕ) (number : ℕ) wher
   abbrev undone : Stepped
   undone = record { station = stationOf primary freed (zeros 64); answer = Refused number }
 
-  number-test : (t : Bool) → eqb number 0 ≡ t → answerNumber (cond t done undone .answer) ≡ number
+  number-test : (t : Bool) → eqb number 0 ≡ t → answerOf (cond t done undone .answer) .number ≡ number
   number-test true e = sym (eqb-true number 0 e)
   number-test false e = refl
 
