@@ -1,15 +1,14 @@
 -- The ends of handing a packet over to a station.
 -- Assumes nothing.
 use mathlib.Core.Path.{_≡_, refl, ap, _∙_}
-use mathlib.Core.Bool.{Bool, true, false, cond, not, _&&_, _||_}
+use mathlib.Core.Bool.{Bool, true, false, not, _&&_, _||_}
 use mathlib.Core.List.{List}
 use Prim.Native.Nat.{ℕ}
-use native.Mathlib.Omega.{arith}
 use lib.Dec.{eqb}
-use borrow.Author.Tests.{ne-eqb, eqb-false}
+use borrow.Author.Tests.{ne-eqb}
 use Rattle.judging.specs.declared.Fields.{Fields}
 use Rattle.judging.specs.declared.Judged.the-variants.{Accepted, Refused as JudgedRefused}
-use Rattle.judging.specs.Judging.{refusalOf, fieldsOf, judgedOf}
+use Rattle.judging.specs.Judging.{judgedOf}
 use Rattle.states.specs.declared.step.Outcome.{Outcome}
 use Rattle.router.specs.Accept.{refusedOf}
 use Rattle.events.specs.declared.answer.Answered.the-variants.{Refused}
@@ -18,6 +17,12 @@ use Rattle.station.specs.declared.station.Stepped.{Stepped}
 use Rattle.station.specs.Station.{Leaves, hasRouter, withRouter}
 use Rattle.station.specs.Acting.{actedBy}
 use Rattle.hearing.specs.Hearing.{refusedBy, refusalBy, acceptedOutcome, acceptedBy, soughtBy, heardBy}
+
+-- there is a router and it is this one, unless there is none or it is another
+unless : (none same : Bool) → (not none && same) ≡ not (none || not same)
+unless true same = refl
+unless false true = refl
+unless false false = refl
 
 module _ (s : Station) (packet : List ℕ) (f : Fields) (room : List ℕ) where
   pub heard-refused : (number : ℕ) (station : Station) → number ≡ refusalBy s packet f → ¬ (number ≡ 0)

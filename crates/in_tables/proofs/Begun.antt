@@ -3,11 +3,11 @@
 use mathlib.Core.Path.{_≡_, refl, sym, ap, _∙_}
 use mathlib.Core.List.{List, _∷_, _++_, append-assoc}
 use mathlib.Core.Bool.{Bool, true, false, cond, not}
-use Prim.Native.Nat.{ℕ, zero, suc, _+_, _/_, _≤_, _<_}
-use native.Mathlib.Nat.{zero-add, suc-add}
+use Prim.Native.Nat.{ℕ, _+_, _/_, _≤_, _<_}
+use native.Mathlib.Nat.{zero-add}
 use native.Mathlib.Omega.{arith}
 use lib.Dec.{eqb}
-use lib.ListN.{length, getD, drop, replicate, length-append, length-drop}
+use lib.ListN.{length, getD, drop, replicate, length-append, length-drop, replicate-append-replicate}
 use lib.Seq.{take-all, drop-append-le}
 use borrow.Author.Tests.{ne-eqb, eqb-true, eqb-false}
 use Rattle.states.specs.declared.record.Router.{Router}
@@ -18,7 +18,7 @@ use Rattle.places.specs.Place.{baseOf, setRecord, placeOf}
 use Rattle.places.proofs.Finding.{find-hit, found}
 use Rattle.events.specs.declared.answer.Answered.the-variants.{Done, Refused}
 use Rattle.events.specs.Lists.{setList}
-use Rattle.events.specs.Result.{answerNumber}
+use Rattle.events.specs.Result.{answerOf}
 use Rattle.configuring.specs.Configuring.{emptyOf, newRouter, freed, configureRefusal}
 use Rattle.histories.proofs.Begun.{empty-record, empty-held}
 use Rattle.station.specs.declared.station.Stepped.{Stepped}
@@ -33,12 +33,8 @@ abbrev zeros : ℕ → List ℕ
 zeros n = replicate n 0
 
 -- zeros behind zeros
-zeros-behind : (m n : ℕ) → zeros m ++ zeros n ≡ zeros (m + n)
-zeros-behind zero n = ap zeros (sym (zero-add n))
-zeros-behind (suc m) n = ap (λ (l : List ℕ). 0 ∷ l) (zeros-behind m n) ∙ ap zeros (sym (suc-add m n))
-
 zeros-are : (m n k : ℕ) → m + n ≡ k → zeros m ++ zeros n ≡ zeros k
-zeros-are m n k e = zeros-behind m n ∙ ap zeros e
+zeros-are m n k e = replicate-append-replicate m n 0 ∙ ap zeros e
 
 zero-lists : zeros 64 ++ zeros 16256 ≡ zeros 16320
 zero-lists = zeros-are 64 16256 16320 (omega arith)
@@ -104,7 +100,7 @@ module _ (primary : ℕ) (r : Router) (addresses : List ℕ) (number : ℕ) wher
   abbrev undone : Stepped
   undone = record { station = stationOf primary freed (zeros 64); answer = Refused number }
 
-  number-test : (t : Bool) → eqb number 0 ≡ t → answerNumber (cond t done undone .answer) ≡ number
+  number-test : (t : Bool) → eqb number 0 ≡ t → answerOf (cond t done undone .answer) .number ≡ number
   number-test true e = sym (eqb-true number 0 e)
   number-test false e = refl
 

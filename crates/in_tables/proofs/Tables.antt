@@ -1,20 +1,25 @@
 -- The table of one station: its words, its one router, and what storing and counting do to it.
 -- Assumes nothing.
-use mathlib.Core.Path.{_≡_, refl, sym, ap, _∙_}
-use mathlib.Core.List.{List, _∷_, _++_, append-assoc}
+use mathlib.Core.Path.{_≡_, refl, sym, ap, subst, _∙_}
+use mathlib.Core.List.{List, [], _∷_, _++_, append-assoc}
 use Prim.Native.Nat.{ℕ, zero, suc, _+_, _-_, _*_, _%_, _≤_, _<_}
-use native.Mathlib.Nat.{mod-eq-of-lt}
+use native.Mathlib.Nat.{mod-eq-of-lt, zero-add, suc-add}
 use native.Mathlib.Omega.{arith}
 use lib.ListN.{length, getD, set, take, drop, replicate}
 use lib.ListN.{length-append, length-replicate, getD-replicate, List·getD-append}
-use lib.Seq.{paste, take-at, drop-at, take-all, drop-drop, take-append-le, getD-drop, set-append-left}
+use lib.Seq.{paste, take-at, drop-at, take-all, drop-drop, take-append-le, getD-drop, getD-append-add, set-append-left}
 use borrow.Author.Tests.{ne-eqb}
+use Rattle.states.specs.declared.record.State.{State}
+use Rattle.states.specs.declared.record.State.the-variants.{Initialize, Backup, Master}
 use Rattle.states.specs.declared.record.Router.{Router}
-use Rattle.states.specs.Step.{counted}
+use Rattle.states.specs.Step.{stateNumber, counted}
+use Rattle.states.proofs.Kept.{Unchanged}
+use Rattle.router.specs.Accept.{refusedOf}
 use Rattle.places.specs.declared.place.Found.{Found}
 use Rattle.places.specs.declared.place.Found.the-variants.{At, Nothing}
 use Rattle.places.specs.Layout.{encodeOf, InRange}
-use Rattle.places.specs.Place.{baseOf, primaryOf, recordAt, setRecord, placeOf, countRefusal}
+use Rattle.places.specs.Place.{baseOf, primaryOf, recordAt, setRecord, stateWord, setEvent, placeOf}
+use Rattle.places.specs.Place.{countWord, countRefusal, countAtPlace}
 use Rattle.places.proofs.Finding.{find-hit}
 use Rattle.places.proofs.Records.{encode-length, record-same}
 use Rattle.places.proofs.Words.{first-same}
@@ -45,6 +50,12 @@ zero-behind a b m n k i la lb h =
     let back = sym (drop-drop n m whole) ∙ ap (drop n) (drop-at a (b ++ zeros) m la) ∙ drop-at b zeros n lb in
     sym (getD-drop (m + n) whole i 0) ∙ ap (λ (l : List ℕ). getD l i 0) back ∙ getD-replicate k i 0 0 h
 
+-- what is set behind the first of two lists is set in the second
+set-behind : (a b : List ℕ) (k v : ℕ) → set (a ++ b) (length a + k) v ≡ a ++ set b k v
+set-behind [] b k v = ap (λ (n : ℕ). set b n v) (zero-add k)
+set-behind (x ∷ a) b k v =
+    ap (λ (n : ℕ). set (x ∷ (a ++ b)) n v) (suc-add (length a) k) ∙ ap (λ (l : List ℕ). x ∷ l) (set-behind a b k v)
+
 -- one more in the front one of two lists, behind a first number
 count-front : (x : ℕ) (a b z : List ℕ) (k : ℕ) → k < length a
     → set (x ∷ (a ++ b ++ z)) (suc k) (counted (getD (x ∷ (a ++ b ++ z)) (suc k) 0))
@@ -56,6 +67,81 @@ count-front x a b z k h =
     let stored = set-append-left (a ++ b) z k v inside ∙ ap (λ (l : List ℕ). l ++ z) (set-append-left a b k v h) in
     ap (λ (l : List ℕ). x ∷ l) (ap (λ (n : ℕ). set (a ++ b ++ z) k (counted n)) read ∙ stored)
 
+-- a state's word, where that of another stood
+state-word : (before after : State) → stateWord (stateNumber before) after ≡ stateNumber after
+state-word Initialize Initialize = refl
+state-word Initialize Backup = refl
+state-word Initialize Master = refl
+state-word Backup Initialize = refl
+state-word Backup Backup = refl
+state-word Backup Master = refl
+state-word Master Initialize = refl
+state-word Master Backup = refl
+state-word Master Master = refl
+
+module _ (r : Router) (z : List ℕ) where
+  -- a router that only an event changed has other words for its state, its timer and two counts
+  event-words : (after : Router) → Unchanged r after
+      → set
+      (set (set (set (encodeOf r ++ z) 4 (stateNumber (after .state))) 5 (after .timer)) 7 (after .counts .accepted))
+      8
+      (after .counts .became)
+      ≡ encodeOf after ++ z
+  unfolding encodeOf
+  event-words after u =
+      let k = u .kept in
+      rw (
+        k .vrid,
+        k .priority,
+        k .interval,
+        k .preempt,
+        k .count,
+        u .owner,
+        u .authentication,
+        u .list-count,
+        u .interval-count,
+      )
+
+  -- and one that refused a packet, for that count
+  count-words : (k : ℕ) → k < 4 → countWord (encodeOf r ++ z) (10 + k - 1) ≡ encodeOf (refusedOf r (10 + k)) ++ z
+  unfolding encodeOf
+  count-words zero h = refl
+  count-words (suc zero) h = refl
+  count-words (suc (suc zero)) h = refl
+  count-words (suc (suc (suc zero))) h = refl
+  count-words (suc (suc (suc (suc k)))) h = absurd (omega arith)
+
+-- the first place's words stand behind the interface's 16
+module _ (a : List ℕ) (long : length a ≡ 16) where
+  get-first : (l : List ℕ) (k : ℕ) → getD (a ++ l) (16 + k) 0 ≡ getD l k 0
+  get-first l k = subst (λ (n : ℕ). getD (a ++ l) (n + k) 0 ≡ getD l k 0) long (getD-append-add a l k 0)
+
+  set-first : (l : List ℕ) (k v : ℕ) → set (a ++ l) (16 + k) v ≡ a ++ set l k v
+  set-first l k v = subst (λ (n : ℕ). set (a ++ l) (n + k) v ≡ a ++ set l k v) long (set-behind a l k v)
+
+  event-there : (r after : Router) (z : List ℕ) → Unchanged r after
+      → setEvent (a ++ (encodeOf r ++ z)) 0 after ≡ a ++ (encodeOf after ++ z)
+  unfolding setEvent encodeOf
+  event-there r after z u =
+      rw (
+        get-first (encodeOf r ++ z) 4,
+        state-word (r .state) (after .state),
+        set-first (encodeOf r ++ z) 4 (stateNumber (after .state)),
+        set-first _ 5 (after .timer),
+        set-first _ 7 (after .counts .accepted),
+        set-first _ 8 (after .counts .became),
+        event-words r z after u,
+      )
+
+  count-there : (r : Router) (z : List ℕ) (number : ℕ) → 10 ≤ number → number ≤ 13
+      → countAtPlace (a ++ (encodeOf r ++ z)) 0 number ≡ a ++ (encodeOf (refusedOf r number) ++ z)
+  unfolding countAtPlace
+  count-there r z number least most =
+      let e : 10 + (number - 10) ≡ number = omega arith in
+      let counts = subst (λ (n : ℕ). countWord (encodeOf r ++ z) (n - 1) ≡ encodeOf (refusedOf r n) ++ z) e
+      (count-words r z (number - 10) (omega arith)) in
+      rw (get-first (encodeOf r ++ z) (number - 1), set-first (encodeOf r ++ z) (number - 1) _, counts)
+
 module _ (s : Station) (nine : length (s .refusals) ≡ 9) where
   interface-length : length (interfaceOf s) ≡ 16
   interface-length = omega (arith, length-append (s .refusals) (replicate 6 0))
@@ -66,6 +152,18 @@ module _ (s : Station) (nine : length (s .refusals) ≡ 9) where
   store-first r =
       paste-middle (interfaceOf s) (encodeOf (s .router)) (replicate 4064 0) (encodeOf r) 16 16 interface-length
       (encode-length (s .router)) (encode-length r)
+
+  -- and so is storing what an event changed of the router
+  pub event-first : (r : Router) → Unchanged (s .router) r → setEvent (wordsOf s) 0 r ≡ wordsOf (withRouter s r)
+  unfolding wordsOf
+  event-first r u = event-there (interfaceOf s) interface-length (s .router) r (replicate 4064 0) u
+
+  -- counting a refusal of 10 to 13 is counting it in the station's router
+  pub refused-first : (number : ℕ) → 10 ≤ number → number ≤ 13
+      → countAtPlace (wordsOf s) 0 number ≡ wordsOf (withRouter s (refusedOf (s .router) number))
+  unfolding wordsOf
+  refused-first number least most =
+      count-there (interfaceOf s) interface-length (s .router) (replicate 4064 0) number least most
 
 module _ (s : Station) (w : WellFormed s) where
   words-length : length (wordsOf s) ≡ 4096

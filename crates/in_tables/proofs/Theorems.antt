@@ -13,18 +13,21 @@ use Rattle.judging.specs.declared.Judged.{Judged}
 use Rattle.judging.specs.declared.Judged.the-variants.{Accepted, Refused}
 use Rattle.judging.specs.Judging.{judgedOf}
 use Rattle.judging.proofs.Accepted.{refused-most, refused-least}
-use Rattle.states.specs.declared.step.Event.the-variants.{Packet}
 use Rattle.states.specs.declared.step.Outcome.{Outcome}
 use Rattle.states.specs.Step.{stepOf}
+use Rattle.states.proofs.Kept.{Unchanged, step-unchanged}
 use Rattle.router.specs.Clock.{tickedOf}
-use Rattle.router.specs.Accept.{acceptedOf, refusedOf}
-use Rattle.router.proofs.Kept.{step-keeps, ticked-keeps}
+use Rattle.router.specs.Accept.{refusedOf}
+use Rattle.router.proofs.Kept.{ticked-unchanged}
 use Rattle.places.specs.declared.place.Found.{Found}
 use Rattle.places.specs.declared.place.Found.the-variants.{At, Nothing}
+use Rattle.places.specs.Place.{countAtPlace}
 use Rattle.events.specs.Lists.{listAt}
-use Rattle.events.specs.Result.{Result as TableResult, routerPlace, actedOf}
+use Rattle.events.specs.Result.{Result as TableResult, refuses as tableRefuses, routerPlace, actedOf}
 use Rattle.events.specs.Events.{happenedAt, happenedOf, clockedAt, clockedOf}
 use Rattle.packets.specs.Packets.{refusalAt, acceptedAt, heardAt, soughtAt, judgedAt, heardOf}
+use Rattle.packets.proofs.Heard.{refused-range}
+use Rattle.histories.proofs.Histories.{accepted-unchanged}
 use Rattle.station.specs.declared.station.Station.{Station}
 use Rattle.station.specs.Station.{Result, refuses, listOf, packetOf, withRouter, withFrame}
 use Rattle.station.specs.Acting.{writtenBy, neededBy, keptBy, actedBy}
@@ -34,7 +37,7 @@ use Rattle.in_tables.specs.Tables.{wordsOf, listsOf, inTable, WellFormed
 use Rattle.in_tables.specs.Theorems.{OneStep, EventInTable, ClockInTable, PacketInTable, DeliveryInTable}
 use Rattle.in_tables.specs.Theorems.{NoneInTable}
 use Rattle.station.proofs.Arrays.{list-length}
-use Rattle.in_tables.proofs.Tables.{store-first, first-record, primary-is, found-first, nothing-else}
+use Rattle.in_tables.proofs.Tables.{event-first, refused-first, first-record, primary-is, found-first, nothing-else}
 use Rattle.in_tables.proofs.Tables.{few, first-list, count-first}
 
 pub one-step : OneStep
@@ -64,13 +67,14 @@ kept-words s o =
 
 module _ (s : Station) (w : WellFormed s) where
   -- an outcome at the first place, and the same for the station
-  acted-in-table : (o : Outcome) (leftover : ℕ) (room : List ℕ) → o .router .count ≡ s .router .count
+  acted-in-table : (o : Outcome) (leftover : ℕ) (room : List ℕ) → Unchanged (s .router) (o .router)
       → actedOf (wordsOf s) (listsOf s) 0 o leftover room ≡ inTable (actedBy s o leftover room)
   unfolding actedOf actedBy
   acted-in-table o leftover room same =
+      let count = same .kept .count in
       let long : 4 * o .router .count ≡ length (listOf s) = omega (arith, list-length s (w .addresses), few s w) in
-      let list = ap (listAt (listsOf s) 0) same ∙ first-list s w in
-      rw (long, list, store-first s (w .refusals) (o .router), primary-is s w, ← kept-words s o)
+      let list = ap (listAt (listsOf s) 0) count ∙ first-list s w in
+      rw (long, list, event-first s (w .refusals) (o .router) same, primary-is s w, ← kept-words s o)
       (either-in-table (ltb (length room) (neededBy s o)) _ _ _ _ refl refl)
 
   refusal-same : (packet : List ℕ) (f : Fields) → refusalAt (wordsOf s) (listsOf s) 0 packet f ≡ refusalBy s packet f
@@ -80,19 +84,25 @@ module _ (s : Station) (w : WellFormed s) where
   accepted-same : (f : Fields) → acceptedAt (wordsOf s) 0 f ≡ acceptedOutcome s f
   accepted-same f = rw (first-record s w, primary-is s w)
 
+  -- a packet is accepted, or refused by 10 to 13
+  heard-test : (t : Bool) (packet : List ℕ) (f : Fields) (room : List ℕ) → eqb (refusalBy s packet f) 0 ≡ t
+      → cond t (actedOf (wordsOf s) (listsOf s) 0 (acceptedOutcome s f) 0 room)
+      (tableRefuses (refusalBy s packet f) (countAtPlace (wordsOf s) 0 (refusalBy s packet f)) room)
+      ≡ inTable
+      (cond t (actedBy s (acceptedOutcome s f) 0 room)
+      (refuses (refusalBy s packet f) (withRouter s (refusedOf (s .router) (refusalBy s packet f))) room))
+  heard-test true packet f room e =
+      let same = rw (first-record s w, primary-is s w) at (accepted-unchanged (wordsOf s) 0 f) in
+      acted-in-table (acceptedOutcome s f) 0 room same
+  heard-test false packet f room e =
+      let number = refusalBy s packet f in
+      let range = refused-range (wordsOf s) (listsOf s) packet 0 f number (sym (refusal-same packet f)) (eqb-false number 0 e) in
+      rw (refused-first s (w .refusals) number (range .0) (range .1))
+
   heard-in-table : (packet : List ℕ) (f : Fields) (room : List ℕ)
       → heardAt (wordsOf s) (listsOf s) 0 packet f room ≡ inTable (acceptedBy s packet f room)
   heard-in-table packet f room =
-      let number = refusalBy s packet f in
-      let same = step-keeps (s .primary) (acceptedOf (s .router)) (Packet (f .priority) (f .source)) .count in
-      rw (
-        refusal-same packet f,
-        accepted-same f,
-        first-record s w,
-        store-first s (w .refusals) (refusedOf (s .router) number),
-        acted-in-table (acceptedOutcome s f) 0 room same,
-      )
-      (either-in-table (eqb number 0) _ _ _ _ refl refl)
+      rw (refusal-same packet f, accepted-same f) (heard-test (eqb (refusalBy s packet f) 0) packet f room refl)
 
   other-in-table : (packet : List ℕ) (f : Fields) (room : List ℕ) → (f .vrid ≡ s .router .vrid → f .vrid ≡ 0)
       → soughtAt (routerPlace (wordsOf s) (f .vrid)) (wordsOf s) (listsOf s) packet f room
@@ -133,7 +143,7 @@ module _ (s : Station) (w : WellFormed s) where
 pub event-in-table : EventInTable
 unfolding happenedOf happenedTo
 event-in-table s event room w =
-    let same = step-keeps (s .primary) (s .router) event .count in
+    let same = step-unchanged (s .primary) (s .router) event in
     called-in-table s w (eqb (s .router .vrid) 0) (λ f. happenedAt f (wordsOf s) (listsOf s) event room) _ _ refl
     (rw (first-record s w, primary-is s w)
     (acted-in-table s w (stepOf (s .primary) (s .router) event) 0 room same))
@@ -143,7 +153,7 @@ pub clock-in-table : ClockInTable
 unfolding clockedOf clockedBy
 clock-in-table s ticks room w =
     let ticked = tickedOf (s .primary) (s .router) ticks in
-    let same = ticked-keeps (s .primary) (s .router) ticks .count in
+    let same = ticked-unchanged (s .primary) (s .router) ticks in
     called-in-table s w (eqb (s .router .vrid) 0) (λ f. clockedAt f (wordsOf s) (listsOf s) ticks room) _ _ refl
     (rw (first-record s w, primary-is s w)
     (acted-in-table s w (ticked .outcome) (ticked .leftover) room same))

@@ -4,7 +4,7 @@ use mathlib.Core.Path.{_≡_}
 use mathlib.Core.List.{List, _∷_, _++_}
 use lib.ListN.{length, replicate}
 use Rattle.places.specs.Layout.{encodeOf}
-use Rattle.events.specs.Result.{Result as TableResult}
+use Rattle.events.specs.Result.{Result as TableResult, answerOf}
 use Rattle.station.specs.declared.station.Station.{Station}
 use Rattle.station.specs.Station.{Result}
 
@@ -22,7 +22,7 @@ listsOf s = s .addresses ++ replicate 16256 0
 
 -- what a step leaves, as a call of the table leaves it
 abbrev pub inTable : Result → TableResult
-inTable r = record { answer = r .answer; words = wordsOf (r .station); room = r .room }
+inTable r = record { answer = answerOf (r .answer); words = wordsOf (r .station); room = r .room }
 
 -- "virtual router number (VRID) 1 to 255 ..; priority ..; interval A ..; 1 to 16 virtual addresses", and 0 where there
 -- is no router

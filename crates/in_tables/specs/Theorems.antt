@@ -14,7 +14,7 @@ use Rattle.states.specs.declared.step.Event.{Event}
 use Rattle.states.specs.declared.step.Outcome.{Outcome}
 use Rattle.events.specs.Lists.{theirList}
 use Rattle.places.specs.declared.place.Found.the-variants.{Nothing}
-use Rattle.events.specs.Result.{answerNumber, routerPlace}
+use Rattle.events.specs.Result.{answerOf, routerPlace}
 use Rattle.configuring.specs.Configuring.{emptyOf, configureRefusal, configuredWords, configuredLists}
 use Rattle.events.specs.Events.{happenedOf, clockedOf}
 use Rattle.packets.specs.Packets.{heardOf}
@@ -67,7 +67,7 @@ NoneInTable =
 abbrev pub MadeInTable : Type 0
 MadeInTable =
     (vrid priority interval : ℕ) (preempt : Bool) (primary : ℕ) (addresses : List ℕ)
-    → (answerNumber (madeOf vrid priority interval preempt primary addresses .answer)
+    → (answerOf (madeOf vrid priority interval preempt primary addresses .answer) .number
     ≡ configureRefusal (emptyOf primary) vrid priority interval addresses)
     × (wordsOf (madeOf vrid priority interval preempt primary addresses .station)
     ≡ configuredWords (emptyOf primary) vrid priority interval preempt addresses)

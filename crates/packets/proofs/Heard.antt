@@ -47,6 +47,30 @@ refused-range words lists packet p f number e n =
     (not (eqb (f .interval) (r .interval)))
     number e n
 
+silent-test : (w : Writes) → isSilent w ≡ true → w ≡ WritesNothing
+silent-test WritesNothing e = refl
+silent-test Advertisement e = absurd (let z : _≡_ {A = ℕ} 0 1 = cc in omega arith)
+silent-test Farewell e = absurd (let z : _≡_ {A = ℕ} 0 1 = cc in omega arith)
+silent-test Takeover e = absurd (let z : _≡_ {A = ℕ} 0 1 = cc in omega arith)
+
+module _ (words lists : List ℕ) (p : ℕ) (f : Fields) (room : List ℕ) where
+  -- what the code does with an accepted packet is what the table of states has it do
+  accepted-turn : (t : Turn) → t ≡ turnOf (acceptedAt words p f) → turnedAt words p true t ≡ acceptedAt words p f
+  accepted-turn t h =
+      ap (turnedAt words p true) h
+      ∙ applied-turn (primaryOf words) (acceptedOf (recordAt words p)) (Packet (f .priority) (f .source))
+
+  pub accepted-acts : (t : Turn) → t ≡ turnOf (acceptedAt words p f)
+      → actedOf words lists p (turnedAt words p true t) 0 room ≡ actedOf words lists p (acceptedAt words p f) 0 room
+  accepted-acts t h = ap (λ (o : Outcome). actedOf words lists p o 0 room) (accepted-turn t h)
+
+  pub accepted-silent : (t : Turn) (after : List ℕ) → t ≡ turnOf (acceptedAt words p f) → isSilent (t .writes) ≡ true
+      → after ≡ setEvent words p (turnedAt words p true t .router)
+      → Leaves (actedOf words lists p (acceptedAt words p f) 0 room) (Done 0 0) after room
+  accepted-silent t after h s w =
+      leaves-equal _ _ _ _ _ (accepted-acts t h)
+      (acted-silent words lists p (turnedAt words p true t) 0 room after (silent-test (t .writes) s) w)
+
 module _ (words lists packet : List ℕ) (p : ℕ) (f : Fields) (room : List ℕ) where
   pub heard-refused : (number : ℕ) (after : List ℕ) → number ≡ refusalAt words lists p packet f → ¬ (number ≡ 0)
       → after ≡ countAtPlace words p number
@@ -63,29 +87,6 @@ module _ (words lists packet : List ℕ) (p : ℕ) (f : Fields) (room : List ℕ
   pub heard-accepted : refusalAt words lists p packet f ≡ 0
       → actedOf words lists p (acceptedAt words p f) 0 room ≡ heardAt words lists p packet f room
   heard-accepted e = rw e
-
-  -- what the code does with an accepted packet is what the table of states has it do
-  accepted-turn : (t : Turn) → t ≡ turnOf (acceptedAt words p f) → turnedAt words p true t ≡ acceptedAt words p f
-  accepted-turn t h =
-      ap (turnedAt words p true) h
-      ∙ applied-turn (primaryOf words) (acceptedOf (recordAt words p)) (Packet (f .priority) (f .source))
-
-  pub accepted-acts : (t : Turn) → t ≡ turnOf (acceptedAt words p f)
-      → actedOf words lists p (turnedAt words p true t) 0 room ≡ actedOf words lists p (acceptedAt words p f) 0 room
-  accepted-acts t h = ap (λ (o : Outcome). actedOf words lists p o 0 room) (accepted-turn t h)
-
-  silent-test : (w : Writes) → isSilent w ≡ true → w ≡ WritesNothing
-  silent-test WritesNothing e = refl
-  silent-test Advertisement e = absurd (let z : _≡_ {A = ℕ} 0 1 = cc in omega arith)
-  silent-test Farewell e = absurd (let z : _≡_ {A = ℕ} 0 1 = cc in omega arith)
-  silent-test Takeover e = absurd (let z : _≡_ {A = ℕ} 0 1 = cc in omega arith)
-
-  pub accepted-silent : (t : Turn) (after : List ℕ) → t ≡ turnOf (acceptedAt words p f) → isSilent (t .writes) ≡ true
-      → after ≡ setEvent words p (turnedAt words p true t .router)
-      → Leaves (actedOf words lists p (acceptedAt words p f) 0 room) (Done 0 0) after room
-  accepted-silent t after h s w =
-      leaves-equal _ _ _ _ _ (accepted-acts t h)
-      (acted-silent words lists p (turnedAt words p true t) 0 room after (silent-test (t .writes) s) w)
 
   pub sought-there : routerPlace words (f .vrid) ≡ At p
       → heardAt words lists p packet f room ≡ soughtAt (routerPlace words (f .vrid)) words lists packet f room

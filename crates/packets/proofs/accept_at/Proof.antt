@@ -1,7 +1,6 @@
 -- `packets::accept_at` meets its contract.
 -- Assumes nothing.
 use mathlib.Core.Path.{sym, _∙_}
-use mathlib.Core.List.{[]}
 use borrow.Author.Needs.{needs}
 use denote.Ref.{now}
 use Rattle.events.proofs.Sought.{leaves-equal}
@@ -26,7 +25,7 @@ returns c =
     let at-silent = c .before .before .before .before in
     let at-turn = at-silent .before .before in
     let a = at-turn .before .before .before .before .before .args in
-    accepted-silent (now (a .words)) (now (a .lists)) [] (a .place) (a .fields) (now (a .out)) _ _ (at-turn .turn-at .ensures)
+    accepted-silent (now (a .words)) (now (a .lists)) (a .place) (a .fields) (now (a .out)) _ _ (at-turn .turn-at .ensures)
     (sym (at-silent .before .is-silent .ensures) ∙ at-silent .if1 .taken) (c .before .before .change .ensures)
 
 act-requires : tie.Need-act-requires
@@ -43,7 +42,7 @@ returns-2 c =
     let at-turn = c .before .before .before .before .before .before .before .before .before in
     let a = at-turn .before .before .before .before .before .args in
     leaves-equal _ _ _ _ _
-    (accepted-acts (now (a .words)) (now (a .lists)) [] (a .place) (a .fields) (now (a .out)) _ (at-turn .turn-at .ensures))
+    (accepted-acts (now (a .words)) (now (a .lists)) (a .place) (a .fields) (now (a .out)) _ (at-turn .turn-at .ensures))
     (c .before .before .before .before .act .ensures)
 
 pub accept-at-spec : {M : Type 1} → statement M
