@@ -1,4 +1,5 @@
 pub mod Rows
+pub mod Kept
 pub mod Theorems
 pub mod Histories
 pub mod Counts
