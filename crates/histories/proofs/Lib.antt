@@ -10,3 +10,4 @@ pub mod Tallied
 pub mod Rows
 pub mod Stays
 pub mod Standing
+pub mod Kept

@@ -3,3 +3,4 @@ pub mod Histories
 pub mod Counts
 pub mod Standing
 pub mod Rows
+pub mod Kept

@@ -1,17 +1,20 @@
--- The theorems of this crate, as statements: each is proved under the same name in proofs/Theorems.antt or,
--- from the answers on, in proofs/Rows.antt.
-use Prim.Native.Nat.{ℕ, _%_, _^_, _≤_, _<_}
+-- The theorems of this crate, as statements: each is proved under the same name in proofs/Theorems.antt, those of
+-- the answers in proofs/Rows.antt, of what a call changes in proofs/Kept.antt, of what no history changes in
+-- proofs/Stays.antt and Standing.antt, and of counts in proofs/Counted.antt, Tallied.antt and Told.antt.
+use Prim.Native.Nat.{ℕ, _+_, _-_, _%_, _^_, _≤_, _<_}
 use mathlib.Core.Path.{_≡_}
 use mathlib.Core.Logic.{_↔_}
 use mathlib.Core.List.{List, [], _∷_}
 use mathlib.Core.Bool.{Bool}
-use lib.ListN.{length, getD}
+use lib.ListN.{length, getD, set}
 use Rattle.wire.specs.Check.{firstRefusal, Passes}
 use Rattle.judging.specs.declared.Fields.{Fields}
 use Rattle.judging.specs.declared.Judged.the-variants.{Accepted}
 use Rattle.judging.specs.Judging.{judgedOf}
+use Rattle.states.specs.declared.record.State.the-variants.{Initialize}
 use Rattle.states.specs.declared.step.Event.{Event}
-use Rattle.places.specs.declared.place.Found.the-variants.{At}
+use Rattle.states.specs.Step.{counted}
+use Rattle.places.specs.declared.place.Found.the-variants.{At, Nothing}
 use Rattle.places.specs.Place.{baseOf, primaryOf, recordAt, placeOf}
 use Rattle.events.specs.declared.answer.Answered.{Answered}
 use Rattle.events.specs.declared.answer.Told.{Told}
@@ -25,7 +28,8 @@ use Rattle.histories.specs.Histories.{Call, configure, called, after, be
 use Rattle.histories.specs.Standing.{Standing, NotRemoved}
 use Rattle.histories.specs.Counts.{tallyOf, tallyBy, modulo}
 use Rattle.histories.specs.Rows.{recordFor, needs, eventOutcome, eventChecks, clockTicked, clockChecks, questionChecks}
-use Rattle.histories.specs.Rows.{packetOutcome, packetChecks, answerBy, statusBy, OneOf}
+use Rattle.histories.specs.Rows.{placeFor, packetOutcome, packetChecks, answerBy, statusBy, OneOf}
+use Rattle.histories.specs.Kept.{OnlyThese, wordsOf, OneCount, packetPlace, countedWord, Keeps}
 
 -- two outcomes that the promise of a call allows are equal: startup, shutdown, clock and packet
 abbrev pub OneResult : Type 0
@@ -276,3 +280,84 @@ PacketNumbers =
 -- a question
 abbrev pub QuestionNumbers : Type 0
 QuestionNumbers = (words : List ℕ) (vrid : ℕ) → OneOf (0 ∷ (20 ∷ [])) (askedOf words vrid .number)
+
+-- what a refusal changes, in any memory: "Refusals 1 to 9 add one to that interface count, 10 to 13 to that router's
+-- count", and a packet that is so refused changes nothing else. "Output bytes stay untouched"
+abbrev pub RefusedPacket : Type 0
+RefusedPacket =
+    (words lists bytes room : List ℕ) (number : ℕ) → length words ≡ 4096
+    → heardOf words lists bytes room .answer .number ≡ number → 1 ≤ number → number ≤ 13
+    → OneCount words (heardOf words lists bytes room .words) (countedWord words bytes number)
+    × (heardOf words lists bytes room .room ≡ room)
+
+-- "14 to 22 change nothing": a packet that the room is too small for
+abbrev pub ShortPacket : Type 0
+ShortPacket =
+    (words lists bytes room : List ℕ) → heardOf words lists bytes room .answer .number ≡ 22
+    → Keeps words room (heardOf words lists bytes room)
+
+-- and startup and shutdown
+abbrev pub RefusedEvent : Type 0
+RefusedEvent =
+    (words lists : List ℕ) (vrid : ℕ) (event : Event) (room : List ℕ)
+    → ¬ (happenedOf words lists vrid event room .answer .number ≡ 0)
+    → Keeps words room (happenedOf words lists vrid event room)
+
+-- and a clock step
+abbrev pub RefusedClock : Type 0
+RefusedClock =
+    (words lists : List ℕ) (vrid ticks : ℕ) (room : List ℕ) → ¬ (clockedOf words lists vrid ticks room .answer .number ≡ 0)
+    → Keeps words room (clockedOf words lists vrid ticks room)
+
+-- and configuring, which leaves the address lists too
+abbrev pub RefusedConfigure : Type 0
+RefusedConfigure =
+    (words lists : List ℕ) (vrid priority interval : ℕ) (preempt : Bool) (addresses : List ℕ)
+    → ¬ (configureRefusal words vrid priority interval addresses ≡ 0)
+    → (configuredWords words vrid priority interval preempt addresses ≡ words)
+    × (configuredLists words lists vrid priority interval addresses ≡ lists)
+
+-- and removing
+abbrev pub RefusedRemove : Type 0
+RefusedRemove = (words : List ℕ) (vrid : ℕ) → ¬ (removeRefusal words vrid ≡ 0) → removedWords words vrid ≡ words
+
+-- what else a call changes, in any memory. Startup and shutdown: at most words 4, 5 and 8 of the router's place, its
+-- state, timer and "times it became Master"
+abbrev pub EventChanges : Type 0
+EventChanges =
+    (words lists : List ℕ) (vrid : ℕ) (event : Event) (room : List ℕ)
+    → OnlyThese words (happenedOf words lists vrid event room .words) (wordsOf (placeFor words vrid) (4 ∷ (5 ∷ (8 ∷ []))))
+
+-- and a clock step
+abbrev pub ClockChanges : Type 0
+ClockChanges =
+    (words lists : List ℕ) (vrid ticks : ℕ) (room : List ℕ)
+    → OnlyThese words (clockedOf words lists vrid ticks room .words) (wordsOf (placeFor words vrid) (4 ∷ (5 ∷ (8 ∷ []))))
+
+-- "if d is below the remaining time, that falls by d": the timer's word alone
+abbrev pub TimerFalls : Type 0
+TimerFalls =
+    (words lists : List ℕ) (vrid ticks place : ℕ) (room : List ℕ) → routerPlace words vrid ≡ At place
+    → ¬ (recordAt words place .state ≡ Initialize) → ticks < recordAt words place .timer
+    → clockedOf words lists vrid ticks room .words ≡ set words (baseOf place + 5) (recordAt words place .timer - ticks)
+
+-- and a packet that is accepted: words 4, 5 and 7, its "accepted packets (any state)", which is one more
+abbrev pub PacketChanges : Type 0
+PacketChanges =
+    (words lists bytes room : List ℕ) (place : ℕ) → length words ≡ 4096 → packetPlace words bytes ≡ place
+    → heardOf words lists bytes room .answer .number ≡ 0
+    → OnlyThese words (heardOf words lists bytes room .words) (wordsOf place (4 ∷ (5 ∷ (7 ∷ []))))
+    × (getD (heardOf words lists bytes room .words) (baseOf place + 7) 0 ≡ counted (getD words (baseOf place + 7) 0))
+
+-- that count alone, where the router's state and timer are as they were
+abbrev pub PacketCounts : Type 0
+PacketCounts =
+    (words lists bytes room : List ℕ) (place : ℕ) → length words ≡ 4096 → packetPlace words bytes ≡ place
+    → heardOf words lists bytes room .answer .number ≡ 0
+    → recordAt (heardOf words lists bytes room .words) place .state ≡ recordAt words place .state
+    → recordAt (heardOf words lists bytes room .words) place .timer ≡ recordAt words place .timer
+    → OneCount words (heardOf words lists bytes room .words) (baseOf place + 7)
+
+-- "19 no free place": where none is found, there is none
+abbrev pub NoFreePlace : Type 0
+NoFreePlace = (words : List ℕ) → placeOf words 0 ≡ Nothing → (place : ℕ) → place < 255 → ¬ Free words place

@@ -1,13 +1,13 @@
 -- What storing an event's outcome at a place, or counting a refusal there, leaves: that in its own words, all else as it was.
 -- Assumes nothing.
 use mathlib.Core.Path.{_≡_, refl, sym, ap, _∙_}
-use mathlib.Core.List.{List, [], _∷_}
+use mathlib.Core.List.{List}
 use mathlib.Core.Bool.{Bool, true, false, cond}
-use Prim.Native.Nat.{ℕ, zero, suc, _+_, _-_, _%_, _≤_, _<_}
+use Prim.Native.Nat.{ℕ, _+_, _-_, _%_, _≤_, _<_}
 use native.Mathlib.Omega.{arith}
 use lib.Dec.{eqb}
 use lib.ListN.{length, getD, set, take, drop, length-set}
-use lib.Seq.{getD-set-same, getD-set-other}
+use lib.Seq.{getD-set-same, getD-set-other, set-getD}
 use borrow.Author.Tests.{eqb-true, eqb-false}
 use Rattle.states.specs.declared.record.State.{State}
 use Rattle.states.specs.declared.record.State.the-variants.{Initialize, Backup, Master}
@@ -32,12 +32,6 @@ same-test : (t : Bool) (word : ℕ) → eqb (stateNumber (stateOf word)) (stateN
     → cond t word (stateNumber (stateOf word)) ≡ word
 same-test true word e = refl
 same-test false word e = absurd (eqb-false (stateNumber (stateOf word)) (stateNumber (stateOf word)) e refl)
-
--- storing what stands there changes nothing
-set-same : (words : List ℕ) (i : ℕ) → set words i (getD words i 0) ≡ words
-set-same [] i = refl
-set-same (x ∷ words) zero = refl
-set-same (x ∷ words) (suc i) = ap (λ (l : List ℕ). x ∷ l) (set-same words i)
 
 module _ (words : List ℕ) (p : ℕ) (r : Router) where
   abbrev one : List ℕ
@@ -170,11 +164,11 @@ timer-event words p t =
       part-word words p 7 (omega arith),
       part-word words p 8 (omega arith),
       kept,
-      set-same words (baseOf p + 4),
+      set-getD words (baseOf p + 4) 0,
       ← accepted,
-      set-same stored (baseOf p + 7),
+      set-getD stored (baseOf p + 7) 0,
       ← became,
-      set-same stored (baseOf p + 8),
+      set-getD stored (baseOf p + 8) 0,
     ))
 
 -- storing the router that stands there changes nothing
@@ -182,7 +176,7 @@ pub event-same : (words : List ℕ) (p : ℕ) → setEvent words p (recordAt wor
 event-same words p =
     sym (timer-event words p (recordAt words p .timer))
     ∙ ap (set words (baseOf p + 5)) (timer-is words p)
-    ∙ set-same words (baseOf p + 5)
+    ∙ set-getD words (baseOf p + 5) 0
 
 -- a refusal of 10 to 13 is counted by one word of the place
 module _ (words : List ℕ) (p number : ℕ) (least : 10 ≤ number) (most : number ≤ 13) where
