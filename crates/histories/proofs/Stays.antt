@@ -29,7 +29,7 @@ use Rattle.histories.specs.Histories.{Call, Memory, called, after, begun
 use Rattle.histories.specs.Theorems.{PrimaryStays}
 use Rattle.histories.proofs.Begun.{empty-held}
 use Rattle.histories.proofs.Changed.{Changed}
-use Rattle.histories.proofs.Does.{Does, same, counts, changes, configures, frees, call-does}
+use Rattle.histories.proofs.Does.{same, counts, changes, Does, moves, configures, frees, call-does}
 use Rattle.histories.proofs.Held.{Held, same-or-not}
 use Rattle.histories.proofs.Histories.{call-held}
 use Rattle.histories.proofs.Theorems.{list-other}
@@ -41,9 +41,9 @@ stored-primary words p r below long = store-count words p r below long 0 (omega 
 
 does-primary : (words lists : List ℕ) (gone : ℕ) (w l : List ℕ) → length words ≡ 4096 → Does words lists gone w l → primaryOf w ≡ primaryOf words
 unfolding primaryOf refusalCount
-does-primary words lists gone w l long same = refl
-does-primary words lists gone w l long (counts n least most) = count-other words n most 0 (λ z. omega arith)
-does-primary words lists gone w l long (changes v p after r s c) = beside-primary p words after (c .beside)
+does-primary words lists gone w l long (moves after same) = refl
+does-primary words lists gone w l long (moves after (counts n least most)) = count-other words n most 0 (λ z. omega arith)
+does-primary words lists gone w l long (moves after (changes v p next r s c)) = beside-primary p words after (c .beside)
 does-primary words lists gone w l long (configures v priority interval preempt addresses p e s) =
     stored-primary words p _ (found words 0 p s .below) long
 does-primary words lists gone w l long (frees p e s) = stored-primary words p freed (sought-below words gone p s) long
@@ -67,9 +67,7 @@ set-long lists p addresses below most long =
     length-paste lists (64 * p) addresses (length addresses) (omega arith) (omega arith) ∙ long
 
 pub does-long : (words lists : List ℕ) (gone : ℕ) (w l : List ℕ) → length lists ≡ 16320 → Does words lists gone w l → length l ≡ 16320
-does-long words lists gone w l long same = long
-does-long words lists gone w l long (counts n least most) = long
-does-long words lists gone w l long (changes v p after r s c) = long
+does-long words lists gone w l long (moves after moved) = long
 does-long words lists gone w l long (configures v priority interval preempt addresses p e s) =
     let most = configure-most words [] v priority interval preempt addresses e in
     set-long lists p addresses (omega (arith, found words 0 p s .below)) most long
@@ -151,14 +149,14 @@ module _ (words lists : List ℕ) (held : Held words) (v p : ℕ) (at : routerPl
       }
 
   pub still : (gone : ℕ) (w l : List ℕ) → ¬ (gone ≡ v) → Does words lists gone w l → Still words lists w l v p
-  still gone w l other same = record { place = at; kept = as-it-was (recordAt words p); list = λ long n few. refl }
-  still gone w l other (counts n least most) =
+  still gone w l other (moves after same) = record { place = at; kept = as-it-was (recordAt words p); list = λ long n few. refl }
+  still gone w l other (moves after (counts n least most)) =
       record {
         place = same-router w words v (λ q. ap (λ (x : ℕ). eqb x v) (count-first words n most q)) ∙ at;
         kept = same-kept w (count-record words n most p);
         list = λ long n few. refl;
       }
-  still gone w l other (changes u q after r s c) =
+  still gone w l other (moves after (changes u q next r s c)) =
       record {
         place = same-router w words v (λ k. ap (λ (x : ℕ). eqb x v) (beside-first q words w (c .beside) k)) ∙ at;
         kept = changed-kept q w r c (same-or-not p q);

@@ -25,8 +25,8 @@ use Rattle.places.proofs.Words.{first-same, first-other, count-first}
 use Rattle.events.specs.Result.{routerPlace}
 use Rattle.events.specs.Events.{Status, noRouter, askedAt, askedOf}
 use Rattle.events.proofs.Sought.{sought-below, sought-word}
-use Rattle.configuring.specs.Configuring.{noCounts, freed, configureRefusal, removeRefusal}
-use Rattle.configuring.proofs.Configures.{never-full}
+use Rattle.configuring.specs.Configuring.{noCounts, emptyOf, freed, configureRefusal, removeRefusal}
+use Rattle.configuring.proofs.Configures.{never-full, never-unknown}
 use Rattle.packets.specs.Packets.{heardOf}
 use Rattle.histories.specs.Histories.{Call, configure, remove, startup, shutdown, clock, packet, Given, Memory, called, after}
 use Rattle.histories.specs.Histories.{begun, GivenAll}
@@ -34,8 +34,8 @@ use Rattle.histories.specs.Counts.{becomes, isAt, addressee, hears, beco
 use Rattle.histories.specs.Counts.{beginsBy, talliedBy, tallyBy, modulo}
 use Rattle.histories.specs.Standing.{removes}
 use Rattle.histories.specs.Theorems.{ToldCounts}
-use Rattle.histories.proofs.Begun.{empty-held}
-use Rattle.histories.proofs.Does.{Does, same, counts, changes, configures, frees, goneBy, call-does}
+use Rattle.histories.proofs.Begun.{empty-held, empty-record}
+use Rattle.histories.proofs.Does.{Moves, same, counts, changes, IsEvent, event-moves}
 use Rattle.histories.proofs.Held.{Held, same-or-not}
 use Rattle.histories.proofs.Histories.{call-held}
 use Rattle.histories.proofs.Standing.{call-still, fresh-at}
@@ -81,6 +81,11 @@ module _ (words : List ℕ) (v p : ℕ) (at : routerPlace words v ≡ At p) wher
       (λ z. sought-word words v p at .2 (sym number ∙ ap (λ (k : ℕ). getD words (baseOf k) 0) (sym z) ∙ found words 0 q s .word))
 
 module _ (v : ℕ) where
+  -- there is no virtual router 0
+  no-zero : (words : List ℕ) → eqb v 0 ≡ true → routerPlace words v ≡ Nothing
+  unfolding routerPlace
+  no-zero words e = rw e
+
   abbrev told : List ℕ → Counts
   told words = askedOf words v .router .counts
 
@@ -90,6 +95,17 @@ module _ (v : ℕ) where
       ≡ cond (beginsBy v m call) noCounts
       (Bumps (hearsBy v m call 0) (becomesMasterBy v m call) (hearsBy v m call 10) (hearsBy v m call 11) (hearsBy v m call 12)
       (hearsBy v m call 13) (told (m .words)))
+
+  -- a call that configures or removes it leaves no counts
+  begins-told : (m : Memory) (call : Call) → beginsBy v m call ≡ true → told (called m call .words) ≡ noCounts → FollowsBy m call
+  begins-told m call e none =
+      none
+      ∙ sym
+      (ap
+      (λ (t : Bool). cond t noCounts
+      (Bumps (hearsBy v m call 0) (becomesMasterBy v m call) (hearsBy v m call 10) (hearsBy v m call 11) (hearsBy v m call 12)
+      (hearsBy v m call 13) (told (m .words))))
+      e)
 
   -- in the table before and after
   module _ (m : Memory) (held : Held (m .words)) (p : ℕ) (at : routerPlace (m .words) v ≡ At p) where
@@ -201,8 +217,172 @@ module _ (v : ℕ) where
     here-test false call g e = stays-told call g e
     here-test true (configure u priority interval preempt addresses) g e = absurd (let z : _≡_ {A = ℕ} 0 1 = cc in omega arith)
     here-test true (remove u) g e =
-        rw e (gone-told (eqb u v) (eqb (removeRefusal (m .words) u) 0) u refl refl e)
+        begins-told m (remove u) e (gone-told (eqb u v) (eqb (removeRefusal (m .words) u) 0) u refl refl e)
     here-test true (startup u room) g e = absurd (let z : _≡_ {A = ℕ} 0 1 = cc in omega arith)
     here-test true (shutdown u room) g e = absurd (let z : _≡_ {A = ℕ} 0 1 = cc in omega arith)
     here-test true (clock u d room) g e = absurd (let z : _≡_ {A = ℕ} 0 1 = cc in omega arith)
     here-test true (packet bytes room) g e = absurd (let z : _≡_ {A = ℕ} 0 1 = cc in omega arith)
+
+  -- not in the table
+  module _ (m : Memory) (held : Held (m .words)) (nowhere : routerPlace (m .words) v ≡ Nothing) where
+    moved-nowhere : (w : List ℕ) → Moves (m .words) w → routerPlace w v ≡ Nothing
+    moved-nowhere w same = nowhere
+    moved-nowhere w (counts n least most) =
+        same-router w (m .words) v (λ q. ap (λ (x : ℕ). eqb x v) (count-first (m .words) n most q)) ∙ nowhere
+    moved-nowhere w (changes u p after r s c) =
+        same-router w (m .words) v (λ q. ap (λ (x : ℕ). eqb x v) (beside-first p (m .words) w (c .beside) q)) ∙ nowhere
+
+    -- storing a record for another virtual router, or for none
+    stored-nowhere : (q : ℕ) (r : Router) → q < 255 → ¬ (r .vrid ≡ v) → ¬ (getD (m .words) (baseOf q) 0 ≡ v)
+        → routerPlace (setRecord (m .words) q r) v ≡ Nothing
+    stored-nowhere q r below new old =
+        same-router (setRecord (m .words) q r) (m .words) v
+        (λ k. stored-test (m .words) q r v below (held .long) new old k (same-or-not k q))
+        ∙ nowhere
+
+    -- a packet for it is refused by 9
+    nine : (bytes room : List ℕ) (f : Fields) → judgedOf bytes ≡ Accepted f → f .vrid ≡ v
+        → heardOf (m .words) (m .lists) bytes room .answer .number ≡ 9
+    unfolding heardOf
+    nine bytes room f e z = rw (e, z, nowhere)
+
+    unheard-test : (t : Bool) (bytes room : List ℕ) (f : Fields) (n : ℕ) → judgedOf bytes ≡ Accepted f → eqb (f .vrid) v ≡ t
+        → ¬ (9 ≡ n) → (t && eqb (heardOf (m .words) (m .lists) bytes room .answer .number) n) ≡ false
+    unheard-test false bytes room f n e z other = refl
+    unheard-test true bytes room f n e z other =
+        ap (λ (k : ℕ). eqb k n) (nine bytes room f e (eqb-true (f .vrid) v z)) ∙ ne-eqb 9 n other
+
+    unheard-judged : (j : Judged) (bytes room : List ℕ) (n : ℕ) → judgedOf bytes ≡ j → ¬ (9 ≡ n)
+        → (isFor v j && eqb (heardOf (m .words) (m .lists) bytes room .answer .number) n) ≡ false
+    unheard-judged (Refused k) bytes room n e other = refl
+    unheard-judged (Accepted f) bytes room n e other = unheard-test (eqb (f .vrid) v) bytes room f n e refl other
+
+    unheard : (call : Call) (n : ℕ) → ¬ (9 ≡ n) → hearsBy v m call n ≡ false
+    unheard (configure u priority interval preempt addresses) n other = refl
+    unheard (remove u) n other = refl
+    unheard (startup u room) n other = refl
+    unheard (shutdown u room) n other = refl
+    unheard (clock u d room) n other = refl
+    unheard (packet bytes room) n other = unheard-judged (judgedOf bytes) bytes room n refl other
+
+    -- it is still not in the table
+    nowhere-told : (call : Call) → beginsBy v m call ≡ false → routerPlace (called m call .words) v ≡ Nothing → FollowsBy m call
+    nowhere-told call begins gone =
+        let before = asked-nowhere (m .words) v nowhere in
+        let later = asked-nowhere (called m call .words) v gone in
+        let told-before : told (m .words) ≡ noCounts = ap (λ (r : Router). r .counts) before in
+        let told-later : told (called m call .words) ≡ noCounts = ap (λ (r : Router). r .counts) later in
+        rw (
+          told-before,
+          told-later,
+          before,
+          later,
+          begins,
+          unheard call 0 (λ z. omega arith),
+          unheard call 10 (λ z. omega arith),
+          unheard call 11 (λ z. omega arith),
+          unheard call 12 (λ z. omega arith),
+          unheard call 13 (λ z. omega arith),
+        )
+
+    event-told : (call : Call) → IsEvent call → beginsBy v m call ≡ false → FollowsBy m call
+    event-told call e begins = nowhere-told call begins (moved-nowhere (called m call .words) (event-moves m call e (held .long)))
+
+    -- configuring: it, another one, or none
+    fresh-told : (u priority interval : ℕ) (preempt : Bool) (addresses : List ℕ) → Given (configure u priority interval preempt addresses)
+        → u ≡ v → configureRefusal (m .words) u priority interval addresses ≡ 0 → (f : Found) → placeOf (m .words) 0 ≡ f
+        → told (called m (configure u priority interval preempt addresses) .words) ≡ noCounts
+    fresh-told u priority interval preempt addresses g z none Nothing s =
+        absurd (never-full (m .words) [] u priority interval preempt addresses none s)
+    fresh-told u priority interval preempt addresses g z none (At p) s =
+        let fresh = fresh-at m held u priority interval preempt addresses g none p s in
+        let w = called m (configure u priority interval preempt addresses) .words in
+        ap (λ (k : ℕ). askedOf w k .router .counts) (sym z)
+        ∙ ap (λ (r : Router). r .counts) (asked-at w u p (fresh .0) ∙ fresh .1)
+
+    other-nowhere : (u priority interval : ℕ) (preempt : Bool) (addresses : List ℕ) → ¬ (u ≡ v) → ¬ (v ≡ 0)
+        → configureRefusal (m .words) u priority interval addresses ≡ 0 → (f : Found) → placeOf (m .words) 0 ≡ f
+        → routerPlace (called m (configure u priority interval preempt addresses) .words) v ≡ Nothing
+    other-nowhere u priority interval preempt addresses n some none Nothing s =
+        absurd (never-full (m .words) [] u priority interval preempt addresses none s)
+    other-nowhere u priority interval preempt addresses n some none (At p) s =
+        let free = found (m .words) 0 p s in
+        rw (none, s) (stored-nowhere p _ (omega (arith, free .below)) n (λ z. some (sym z ∙ free .word)))
+
+    configured-told : (s t z : Bool) (u priority interval : ℕ) (preempt : Bool) (addresses : List ℕ)
+        → Given (configure u priority interval preempt addresses) → eqb u v ≡ s
+        → eqb (configureRefusal (m .words) u priority interval addresses) 0 ≡ t → eqb v 0 ≡ z
+        → FollowsBy m (configure u priority interval preempt addresses)
+    configured-told true true z u priority interval preempt addresses g a b c =
+        begins-told m (configure u priority interval preempt addresses) (rw (a, b))
+        (fresh-told u priority interval preempt addresses g (eqb-true u v a)
+        (eqb-true (configureRefusal (m .words) u priority interval addresses) 0 b) (placeOf (m .words) 0) refl)
+    configured-told s false z u priority interval preempt addresses g a b c =
+        nowhere-told (configure u priority interval preempt addresses) (rw b (and-false (eqb u v))) (rw b nowhere)
+    configured-told false true true u priority interval preempt addresses g a b c =
+        nowhere-told (configure u priority interval preempt addresses) (rw a) (no-zero _ c)
+    configured-told false true false u priority interval preempt addresses g a b c =
+        nowhere-told (configure u priority interval preempt addresses) (rw a)
+        (other-nowhere u priority interval preempt addresses (eqb-false u v a) (eqb-false v 0 c)
+        (eqb-true (configureRefusal (m .words) u priority interval addresses) 0 b) (placeOf (m .words) 0) refl)
+
+    -- removing another one
+    apart : {q : ℕ} → At q ≡ Nothing → ⊥
+    apart e = let z : _≡_ {A = ℕ} 0 1 = cc in omega arith
+
+    gone : (q u : ℕ) → routerPlace (m .words) u ≡ At q → eqb (removeRefusal (m .words) u) 0 ≡ true → ¬ (u ≡ v) → (z : Bool) → eqb v 0 ≡ z
+        → routerPlace (called m (remove u) .words) v ≡ Nothing
+    gone q u s e other true c = no-zero _ c
+    gone q u s e other false c =
+        let there = sought-word (m .words) u q s in
+        rw (e, s)
+        (stored-nowhere q freed (there .0) (λ z. eqb-false v 0 c (sym z)) (λ z. other (sym (there .1) ∙ z)))
+
+    removed-told : (t : Bool) (f : Found) (u : ℕ) → eqb (removeRefusal (m .words) u) 0 ≡ t → routerPlace (m .words) u ≡ f
+        → FollowsBy m (remove u)
+    removed-told false f u e s =
+        nowhere-told (remove u) (rw e (and-false (eqb u v))) (rw e nowhere)
+    removed-told true Nothing u e s = absurd (never-unknown (m .words) u (eqb-true (removeRefusal (m .words) u) 0 e) s)
+    removed-told true (At q) u e s =
+        let there = sought-word (m .words) u q s in
+        let other : ¬ (u ≡ v) = λ z. apart (sym s ∙ ap (routerPlace (m .words)) z ∙ nowhere) in
+        nowhere-told (remove u) (rw (ne-eqb u v other)) (gone q u s e other (eqb v 0) refl)
+
+    there-told : (call : Call) → Given call → FollowsBy m call
+    there-told (configure u priority interval preempt addresses) g =
+        configured-told (eqb u v) (eqb (configureRefusal (m .words) u priority interval addresses) 0) (eqb v 0) u priority interval
+        preempt addresses g refl refl refl
+    there-told (remove u) g = removed-told (eqb (removeRefusal (m .words) u) 0) (routerPlace (m .words) u) u refl refl
+    there-told (startup u room) g = event-told (startup u room) tt refl
+    there-told (shutdown u room) g = event-told (shutdown u room) tt refl
+    there-told (clock u d room) g = event-told (clock u d room) tt refl
+    there-told (packet bytes room) g = event-told (packet bytes room) tt refl
+
+  call-test : (f : Found) (m : Memory) → Held (m .words) → routerPlace (m .words) v ≡ f → (call : Call) → Given call → FollowsBy m call
+  call-test (At p) m held s call g = here-test m held p s (removes v m call) call g refl
+  call-test Nothing m held s call g = there-told m held s call g
+
+  history-told : (m : Memory) (history : List Call) (n : Counts) → GivenAll history → Held (m .words)
+      → told (m .words) ≡ modulo n → told (after m history .words) ≡ modulo (tallyBy v m history n)
+  history-told m [] n g held e = e
+  history-told m (call ∷ rest) n g held e =
+      history-told (called m call) rest (talliedBy v m call n) (g .1) (call-held m call (g .0) held)
+      (call-test (routerPlace (m .words) v) m held refl call (g .0)
+      ∙ ap
+      (λ (c : Counts). cond (beginsBy v m call) noCounts
+      (Bumps (hearsBy v m call 0) (becomesMasterBy v m call) (hearsBy v m call 10) (hearsBy v m call 11) (hearsBy v m call 12)
+      (hearsBy v m call 13) c)) e
+      ∙ tally-test (beginsBy v m call) (hearsBy v m call 0) (becomesMasterBy v m call) (hearsBy v m call 10) (hearsBy v m call 11)
+      (hearsBy v m call 12) (hearsBy v m call 13) n)
+
+-- of an empty table a question tells no counts
+empty-told : (f : Found) (primary v : ℕ) → routerPlace (emptyOf primary) v ≡ f → askedOf (emptyOf primary) v .router .counts ≡ noCounts
+empty-told Nothing primary v s = ap (λ (r : Router). r .counts) (asked-nowhere (emptyOf primary) v s)
+empty-told (At p) primary v s =
+    ap (λ (r : Router). r .counts)
+    (asked-at (emptyOf primary) v p s ∙ empty-record primary p (sought-below (emptyOf primary) v p s))
+
+pub told-counts : ToldCounts
+told-counts primary lists history g v =
+    history-told v (begun primary lists) history noCounts g (empty-held primary)
+    (empty-told (routerPlace (emptyOf primary) v) primary v refl)
