@@ -56,9 +56,8 @@ fired-room : (words lists : List ℕ) (v p ticks : ℕ) (room : List ℕ) → ro
 unfolding actedOf
 fired-room words lists v p ticks room found master late large =
     let r = recordAt words p in
-    let t = tickedOf (primaryOf words) r ticks in
     let few = read-in-range words p .count in
-    ap (λ (x : Result). x .room) (sym (clocked words lists v p ticks t room found refl))
+    ap (λ (x : Result). x .room) (sym (clocked words lists v p ticks room found))
     ∙ rw (fires (primaryOf words) r ticks master late, le-ltb (length room) (50 + 4 * r .count) (omega (arith, few)))
 
 pub own-writing : OwnWriting
