@@ -11,3 +11,4 @@ pub mod Rows
 pub mod Stays
 pub mod Standing
 pub mod Kept
+pub mod Lists
