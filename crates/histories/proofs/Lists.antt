@@ -6,7 +6,7 @@ use mathlib.Core.Bool.{Bool, true, false, cond}
 use Prim.Native.Nat.{ℕ, zero, suc, _+_, _*_, _≤_, _<_}
 use native.Mathlib.Omega.{arith}
 use lib.Dec.{eqb}
-use lib.ListN.{length, take, drop}
+use lib.ListN.{length, take, drop, replicate, length-replicate}
 use lib.Seq.{paste, getD-drop, length-paste}
 use borrow.Author.Tests.{eqb-true}
 use Rattle.sums.specs.Sum.{Bytes}
@@ -18,13 +18,21 @@ use Rattle.places.proofs.Finding.{found}
 use Rattle.events.specs.Lists.{listAt, setList}
 use Rattle.configuring.specs.Configuring.{placeIn, configureRefusal}
 use Rattle.configuring.proofs.Configures.{configure-most}
-use Rattle.histories.specs.Histories.{Call, configure, remove, startup, shutdown, clock, packet, Given, Memory, called, after}
-use Rattle.histories.specs.Histories.{GivenAll}
+use Rattle.histories.specs.Histories.{Call, configure, remove, startup, shutdown, clock, packet, Given, Memory, called}
+use Rattle.histories.specs.Histories.{after, GivenAll}
 
 -- 64 bytes for each place
 pub record Listed (lists : List ℕ) : Type 0 where
   pub bytes : Bytes lists
   pub long : length lists ≡ 16320
+
+-- zeros are
+zeros-bytes : (n : ℕ) → Bytes (replicate n 0)
+zeros-bytes zero = λ i. omega arith
+zeros-bytes (suc n) = bytes-cons 0 (replicate n 0) (omega arith) (zeros-bytes n)
+
+pub zeros-listed : Listed (replicate 16320 0)
+zeros-listed = record { bytes = zeros-bytes 16320; long = length-replicate {A = ℕ} 16320 0 }
 
 bytes-take : (n : ℕ) (s : List ℕ) → Bytes s → Bytes (take n s)
 bytes-take zero s h = λ i. omega arith
@@ -45,8 +53,8 @@ bytes-paste d at s n h k =
     (bytes-append (take at d) (take n s) (bytes-take at d h) (bytes-take n s k))
     (bytes-drop (at + n) d h)
 
-set-listed : (lists : List ℕ) (place : ℕ) (addresses : List ℕ) → place < 255 → length addresses ≤ 64 → Bytes addresses → Listed lists
-    → Listed (setList lists place addresses)
+set-listed : (lists : List ℕ) (place : ℕ) (addresses : List ℕ) → place < 255 → length addresses ≤ 64 → Bytes addresses
+    → Listed lists → Listed (setList lists place addresses)
 unfolding setList
 set-listed lists place addresses below most bytes listed =
     let n = length addresses in

@@ -31,6 +31,7 @@ use Rattle.configuring.specs.Configuring.{isFound, placeIn, emptyOf, newRouter,
 use Rattle.events.specs.Events.{happenedOf, clockedOf}
 use Rattle.packets.specs.Packets.{heardOf}
 use Rattle.histories.specs.Histories.{Call, configure, startup, Given, Memory, after, GivenAll}
+use Rattle.histories.proofs.Lists.{zeros-listed}
 use Rattle.segment.specs.Segment.{routerOf, addressesOf, primaryAddress, Reached, Stands, afterAll}
 use Rattle.segment.specs.Examples.{virtualAddress, room, configured, takenOver, callsOf, stationOf}
 use Rattle.segment.specs.Examples.{Kind, idle, waiting, leading}
@@ -156,11 +157,14 @@ given waiting = (given-configure, (tt, tt))
 given leading = (given-configure, (tt, (tt, tt)))
 
 module _ (primary : ℕ) where
-  reached : (k : Kind) → Reached (stationOf k primary)
-  reached k =
+  reached : primary < 2 ^ 32 → (k : Kind) → Reached (stationOf k primary)
+  reached fits k =
       record {
         primary = primary;
+        fits = fits;
         lists = replicate 16320 0;
+        bytes = zeros-listed .bytes;
+        long = zeros-listed .long;
         history = configure 1 100 1 true virtualAddress ∷ callsOf k;
         given = given k;
         reached = refl;
@@ -192,8 +196,7 @@ module _ (primary : ℕ) where
   stands fits k =
       let p = plain k in
       record {
-        history = reached k;
-        fits = subst (λ (x : ℕ). x < 2 ^ 32) (sym (p .3)) fits;
+        history = reached fits k;
         named = p .0;
         interval-is = p .1;
         addresses-are = p .2;

@@ -2,10 +2,10 @@
 -- Assumes nothing.
 use mathlib.Core.Path.{_≡_, refl, sym, ap, subst, _∙_}
 use mathlib.Core.List.{List, [], _∷_}
-use mathlib.Core.Bool.{Bool, true, false, cond, not, _&&_, _||_}
+use mathlib.Core.Bool.{Bool, true, false, cond, not, _||_}
 use Prim.Native.Nat.{ℕ, _+_, _*_, _/_, _^_, _≤_, _<_}
 use native.Mathlib.Omega.{arith}
-use lib.Dec.{eqb, leb, ltb}
+use lib.Dec.{eqb, leb}
 use lib.ListN.{length, take, drop}
 use borrow.Author.Tests.{eq-eqb, ne-eqb, le-ltb}
 use Rattle.sums.specs.Sum.{Bytes}
@@ -20,26 +20,22 @@ use Rattle.states.specs.declared.record.State.{State}
 use Rattle.states.specs.declared.record.State.the-variants.{Initialize, Backup, Master}
 use Rattle.states.specs.declared.record.Router.{Router}
 use Rattle.states.specs.declared.step.Event.the-variants.{Packet}
-use Rattle.states.specs.declared.step.Writes.{Writes}
 use Rattle.states.specs.declared.step.Writes.the-variants.{Nothing}
 use Rattle.states.specs.declared.step.Outcome.{Outcome}
-use Rattle.states.specs.Step.{stays, waits, hurries, advertises, beats, heardByBackup, heardByMaster, stepIn, stepOf}
+use Rattle.states.specs.Step.{stays, waits, beats, stepIn, stepOf}
 use Rattle.router.specs.Accept.{routerRefusal, refusedOf, acceptedOf}
 use Rattle.router.specs.Timed.{Timed}
 use Rattle.router.proofs.Timed.{step-timed}
-use Rattle.output.specs.Output.{needOf}
-use Rattle.places.specs.declared.place.Found.{Found}
-use Rattle.places.specs.declared.place.Found.the-variants.{At}
-use Rattle.places.specs.Place.{primaryOf, recordAt, setEvent, countAtPlace}
+use Rattle.places.specs.Place.{primaryOf, setEvent, countAtPlace}
 use Rattle.places.proofs.Records.{read-in-range}
-use Rattle.events.specs.Lists.{listAt, theirList, listsMatch}
-use Rattle.events.specs.Result.{Result, routerPlace, actedOf}
-use Rattle.packets.specs.Packets.{refusalAt, acceptedAt, heardAt, soughtAt, judgedAt, heardOf}
+use Rattle.events.specs.Lists.{theirList, listsMatch}
+use Rattle.events.specs.Result.{actedOf}
+use Rattle.packets.specs.Packets.{refusalAt, acceptedAt, heardAt, heardOf}
 use Rattle.histories.specs.Histories.{packet, Memory, called}
 use Rattle.histories.proofs.Changed.{Changed, event-changed, count-changed}
 use Rattle.histories.proofs.Histories.{accepted-unchanged}
 use Rattle.events.proofs.Matching.{and-false}
-use Rattle.segment.specs.Segment.{routerOf, addressesOf, primaryAddress}
+use Rattle.segment.specs.Segment.{routerOf}
 use Rattle.segment.proofs.Standing.{placeAt, On, word, on-sound, on-configured, changed-router, changed-on}
 
 -- an address list matches itself
@@ -86,7 +82,7 @@ module _ (vrid interval : ℕ) (addresses : List ℕ) (q source : ℕ) where
     fit : Writable addresses (50 + length addresses)
     fit = frame-fits addresses listed
 
-    judged : judgedOf told ≡ Accepted said
+    pub judged : judgedOf told ≡ Accepted said
     unfolding messageOf
     judged = accepted vrid q interval source (50 + length addresses) addresses v p i s bytes fit
 

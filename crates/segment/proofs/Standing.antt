@@ -1,12 +1,12 @@
 -- A station of a segment: what its history leaves of it, and what a change of its router keeps.
 -- Assumes nothing.
-use mathlib.Core.Path.{_≡_, refl, sym, ap, subst, _∙_}
+use mathlib.Core.Path.{_≡_, refl, sym, ap, _∙_}
 use mathlib.Core.List.{List}
 use mathlib.Core.Bool.{true, cond}
 use Prim.Native.Nat.{ℕ, zero, suc, _≤_, _<_}
 use native.Mathlib.Omega.{arith}
 use lib.Dec.{eqb}
-use lib.ListN.{length, getD}
+use lib.ListN.{getD}
 use Rattle.states.specs.declared.record.Router.{Router}
 use Rattle.router.specs.Timed.{Timed}
 use Rattle.places.specs.declared.place.Found.{Found}
