@@ -33,7 +33,7 @@ reached-held m h =
 reached-listed : (m : Memory) → Reached m → Listed (m .lists)
 reached-listed m h =
     subst (λ (x : Memory). Listed (x .lists)) (sym (h .reached))
-    (history-listed (begun (h .primary) (h .lists)) (h .history) (h .given)
+    (history-listed (begun (h .primary) (h .lists)) (h .history) (h .given) (empty-held (h .primary))
     (record { bytes = h .bytes; long = h .long }))
 
 -- and its primary address is the one that it was made with

@@ -2,8 +2,8 @@
 -- Assumes nothing.
 use mathlib.Core.Path.{_≡_, refl, sym, ap, _∙_}
 use mathlib.Core.List.{List}
-use mathlib.Core.Bool.{true, cond}
-use Prim.Native.Nat.{ℕ, zero, suc, _≤_, _<_}
+use mathlib.Core.Bool.{true}
+use Prim.Native.Nat.{ℕ, _≤_, _<_}
 use native.Mathlib.Omega.{arith}
 use lib.Dec.{eqb}
 use lib.ListN.{getD}
@@ -11,7 +11,7 @@ use Rattle.states.specs.declared.record.Router.{Router}
 use Rattle.router.specs.Timed.{Timed}
 use Rattle.places.specs.declared.place.Found.{Found}
 use Rattle.places.specs.declared.place.Found.the-variants.{At, Nothing}
-use Rattle.places.specs.Place.{baseOf, recordAt, placeFrom, placeOf}
+use Rattle.places.specs.Place.{baseOf, recordAt}
 use Rattle.places.proofs.Beside.{beside-first, beside-primary}
 use Rattle.events.specs.Lists.{listAt}
 use Rattle.events.specs.Result.{routerPlace}
@@ -20,6 +20,7 @@ use Rattle.histories.specs.Histories.{Sound, Memory}
 use Rattle.events.proofs.Sought.{sought-word}
 use Rattle.histories.proofs.Changed.{Changed}
 use Rattle.histories.proofs.Held.{Held, changed-held}
+use Rattle.histories.proofs.Stays.{same-router}
 use Rattle.segment.specs.Segment.{routerOf, addressesOf, primaryAddress}
 
 -- the place of the segment's virtual router
@@ -54,19 +55,6 @@ module _ (vrid interval : ℕ) (addresses : List ℕ) (primary priority : ℕ) (
       × (routerOf vrid m .count ≤ 16)
   on-configured = on-sound .configured on-used
 
--- where every place has the same first word, the same place is found
-same-found : (a b : List ℕ) (v i n : ℕ) → ((q : ℕ) → getD a (baseOf q) 0 ≡ getD b (baseOf q) 0)
-    → placeFrom a v i n ≡ placeFrom b v i n
-unfolding placeFrom
-same-found a b v i zero h = refl
-same-found a b v i (suc n) h =
-    ap (λ (w : ℕ). cond (eqb w v) (At i) (placeFrom a v (suc i) n)) (h i)
-    ∙ ap (λ (f : Found). cond (eqb (getD b (baseOf i) 0) v) (At i) f) (same-found a b v (suc i) n h)
-
-same-place : (a b : List ℕ) (v : ℕ) → ((q : ℕ) → getD a (baseOf q) 0 ≡ getD b (baseOf q) 0) → routerPlace a v ≡ routerPlace b v
-unfolding routerPlace placeOf
-same-place a b v h = ap (λ (f : Found). cond (eqb v 0) Nothing f) (same-found a b v 0 255 h)
-
 pub found-is : (f : Found) → isFound f ≡ true → f ≡ At (placeIn f)
 found-is (At p) e = refl
 found-is Nothing e = absurd (let z : _≡_ {A = ℕ} 0 1 = cc in omega arith)
@@ -82,7 +70,9 @@ module _ (vrid interval : ℕ) (addresses : List ℕ) (primary priority : ℕ) (
   next = record { words = words; lists = m .lists }
 
   found-same : routerPlace words vrid ≡ routerPlace (m .words) vrid
-  found-same = same-place words (m .words) vrid (beside-first place (m .words) words (changed .beside))
+  found-same =
+      same-router words (m .words) vrid
+      (λ q. ap (λ (x : ℕ). eqb x vrid) (beside-first place (m .words) words (changed .beside) q))
 
   place-is : placeAt vrid words ≡ place
   place-is = ap placeIn found-same
