@@ -25,7 +25,7 @@ pub record Listed (lists : List ℕ) : Type 0 where
   pub bytes : Bytes lists
   pub long : length lists ≡ 16320
 
--- zeros are
+-- a list of zeros
 zeros-bytes : (n : ℕ) → Bytes (replicate n 0)
 zeros-bytes zero = λ i. omega arith
 zeros-bytes (suc n) = bytes-cons 0 (replicate n 0) (omega arith) (zeros-bytes n)
@@ -52,7 +52,8 @@ bytes-paste d at s n h k =
     (bytes-append (take at d) (take n s) (bytes-take at d h) (bytes-take n s k))
     (bytes-drop (at + n) d h)
 
-set-bytes : (lists : List ℕ) (place : ℕ) (addresses : List ℕ) → Bytes lists → Bytes addresses → Bytes (setList lists place addresses)
+set-bytes : (lists : List ℕ) (place : ℕ) (addresses : List ℕ) → Bytes lists → Bytes addresses
+    → Bytes (setList lists place addresses)
 unfolding setList
 set-bytes lists place addresses h k = bytes-paste lists (64 * place) addresses (length addresses) h k
 

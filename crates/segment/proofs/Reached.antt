@@ -19,8 +19,7 @@ use Rattle.histories.proofs.Begun.{empty-held}
 use Rattle.histories.proofs.Histories.{history-held}
 use Rattle.histories.proofs.Lists.{Listed, list-bytes, history-listed}
 use Rattle.histories.proofs.Stays.{primary-stays}
-use Rattle.segment.specs.Segment.{routerOf, primaryAddress, Reached, Stands}
-use Rattle.segment.specs.Segment.{advertisementOf}
+use Rattle.segment.specs.Segment.{routerOf, primaryAddress, Reached, Stands, advertisementOf}
 use Rattle.segment.proofs.Standing.{placeAt, On, word, on-vrid, on-configured, found-is}
 use Rattle.segment.proofs.Handing.{told}
 
