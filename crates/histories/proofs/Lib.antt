@@ -12,3 +12,4 @@ pub mod Stays
 pub mod Standing
 pub mod Kept
 pub mod Told
+pub mod Lists

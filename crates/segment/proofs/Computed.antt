@@ -8,6 +8,7 @@ use native.Mathlib.Omega.{arith}
 use lib.Dec.{eqb}
 use lib.ListN.{length, replicate}
 use Rattle.sums.specs.Sum.{plus, sumOf}
+use Rattle.sums.proofs.Bytes.{bytes-each}
 use Rattle.headers.specs.Packet.{causeOf, headerSumWrong, notOurs}
 use Rattle.judging.specs.Message.{versionWrong, tooShort, messageSumWrong}
 use Rattle.judging.specs.Judging.{refusalOf, fieldsOf, judgedOf}
@@ -23,13 +24,14 @@ use Rattle.places.specs.declared.place.Found.{Found}
 use Rattle.places.specs.declared.place.Found.the-variants.{At, Nothing}
 use Rattle.wire.specs.Check.{firstRefusal}
 use Rattle.places.specs.Layout.{decodeOf, encodeOf}
-use Rattle.places.specs.Place.{recordAt, setRecord, placeFrom, placeOf, primaryOf}
+use Rattle.places.specs.Place.{recordAt, setRecord, setEvent, countAtPlace, placeFrom, placeOf, primaryOf}
 use Rattle.events.specs.Lists.{listAt, setList, theirList, listsMatch}
 use Rattle.events.specs.Result.{routerPlace, actedOf}
 use Rattle.configuring.specs.Configuring.{isFound, placeIn, emptyOf, newRouter, configureRefusal}
 use Rattle.events.specs.Events.{happenedOf, clockedOf}
 use Rattle.packets.specs.Packets.{heardOf}
-use Rattle.histories.specs.Histories.{Call, configure, startup, Memory, after, GivenAll}
+use Rattle.histories.specs.Histories.{Call, configure, startup, Given, Memory, after, GivenAll}
+use Rattle.histories.proofs.Lists.{zeros-listed}
 use Rattle.segment.specs.Segment.{routerOf, addressesOf, primaryAddress, Reached, Stands, afterAll}
 use Rattle.segment.specs.Examples.{virtualAddress, room, configured, takenOver, callsOf, stationOf}
 use Rattle.segment.specs.Examples.{Kind, idle, waiting, leading}
@@ -111,7 +113,7 @@ record Computed : Type 0 where
   missing : one-hears (masterAt 0xC0A80109 1) (masterAt 0xC0A8010A 1) ≡ twoMasters
 
 computed : Computed
-unfolding emptyOf setRecord placeOf placeFrom routerPlace recordAt decodeOf encodeOf setList listAt theirList
+unfolding emptyOf setRecord setEvent countAtPlace placeOf placeFrom routerPlace recordAt decodeOf encodeOf setList listAt theirList
     listsMatch happenedOf clockedOf heardOf actedOf stepOf tickedOf routerRefusal masterDownOf
     advertisementIntervalOf primaryOf judgedOf fieldsOf refusalOf causeOf headerSumWrong notOurs versionWrong
     tooShort messageSumWrong plus sumOf messageChecksum messageOf headerChecksum headerOf packetOf frameOf
@@ -146,17 +148,23 @@ stateOf idle = Initialize
 stateOf waiting = Backup
 stateOf leading = Master
 
+given-configure : Given (configure 1 100 1 true virtualAddress)
+given-configure = (omega arith, omega arith, omega arith, bytes-each virtualAddress (omega arith))
+
 given : (k : Kind) → GivenAll (configure 1 100 1 true virtualAddress ∷ callsOf k)
-given idle = ((omega arith, omega arith, omega arith), tt)
-given waiting = ((omega arith, omega arith, omega arith), (tt, tt))
-given leading = ((omega arith, omega arith, omega arith), (tt, (tt, tt)))
+given idle = (given-configure, tt)
+given waiting = (given-configure, (tt, tt))
+given leading = (given-configure, (tt, (tt, tt)))
 
 module _ (primary : ℕ) where
-  reached : (k : Kind) → Reached (stationOf k primary)
-  reached k =
+  reached : primary < 2 ^ 32 → (k : Kind) → Reached (stationOf k primary)
+  reached fits k =
       record {
         primary = primary;
+        fits = fits;
         lists = replicate 16320 0;
+        bytes = zeros-listed .bytes;
+        long = zeros-listed .long;
         history = configure 1 100 1 true virtualAddress ∷ callsOf k;
         given = given k;
         reached = refl;
@@ -169,7 +177,7 @@ module _ (primary : ℕ) where
       × (primaryAddress m ≡ primary) × (routerOf 1 m .priority ≡ 100) × (routerOf 1 m .state ≡ stateOf k)
 
   plain-first : (k : Kind) → Plain k (after (firstOf primary 100 1 virtualAddress) (callsOf k))
-  unfolding emptyOf setRecord placeOf placeFrom routerPlace recordAt decodeOf encodeOf setList listAt primaryOf
+  unfolding emptyOf setRecord setEvent placeOf placeFrom routerPlace recordAt decodeOf encodeOf setList listAt primaryOf
       happenedOf clockedOf actedOf stepOf tickedOf masterDownOf advertisementIntervalOf
   plain-first idle = (refl, refl, refl, refl, refl, refl)
   plain-first waiting = (refl, refl, refl, refl, refl, refl)
@@ -188,8 +196,7 @@ module _ (primary : ℕ) where
   stands fits k =
       let p = plain k in
       record {
-        history = reached k;
-        fits = subst (λ (x : ℕ). x < 2 ^ 32) (sym (p .3)) fits;
+        history = reached fits k;
         named = p .0;
         interval-is = p .1;
         addresses-are = p .2;

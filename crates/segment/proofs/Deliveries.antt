@@ -2,73 +2,25 @@
 -- Assumes nothing.
 use mathlib.Core.Path.{_≡_, refl, sym, ap, subst, _∙_}
 use mathlib.Core.Logic.{_⊎_, inl, inr}
-use mathlib.Core.List.{List, [], _∷_}
-use mathlib.Core.Bool.{Bool, true, false, cond}
-use Prim.Native.Nat.{ℕ, _^_, _≤_, _<_}
-use native.Mathlib.Omega.{arith}
+use mathlib.Core.List.{List}
+use mathlib.Core.Bool.{cond}
+use Prim.Native.Nat.{ℕ, _<_}
 use lib.Dec.{eqb}
-use lib.ListN.{length, getD, set, drop, length-set}
+use lib.ListN.{length, length-set}
 use lib.Seq.{getD-set-same, getD-set-other}
-use borrow.Author.Tests.{eqb-true, eqb-false, ne-eqb}
-use Rattle.writing.specs.Frame.{frameOf}
-use Rattle.states.specs.declared.record.Router.{Router}
-use Rattle.states.specs.declared.record.State.{State}
-use Rattle.states.specs.declared.record.State.the-variants.{Master}
+use borrow.Author.Tests.{ne-eqb}
 use Rattle.states.specs.declared.step.Event.the-variants.{Packet}
 use Rattle.states.specs.Step.{stepIn}
 use Rattle.router.specs.Accept.{acceptedOf}
-use Rattle.places.specs.Place.{recordAt}
-use Rattle.places.proofs.Records.{read-in-range}
-use Rattle.histories.specs.Histories.{packet, Memory, called, after, begun}
-use Rattle.events.proofs.Sought.{sought-word}
-use Rattle.histories.proofs.Held.{Held, same-or-not}
-use Rattle.histories.proofs.Begun.{empty-held}
-use Rattle.histories.proofs.Histories.{history-held}
-use Rattle.segment.specs.Segment.{routerOf, addressesOf, primaryAddress, IsMaster, Reached, Stands, stationAt, Segment}
-use Rattle.segment.specs.Segment.{Outranks, advertisementOf, Delivery, handedOver, afterAll, FromMasters, Has}
-use Rattle.segment.proofs.Standing.{placeAt, On, on-vrid, on-configured, found-is}
+use Rattle.histories.specs.Histories.{packet, Memory, called}
+use Rattle.histories.proofs.Held.{same-or-not}
+use Rattle.segment.specs.Segment.{routerOf, primaryAddress, IsMaster, Stands, stationAt, Segment}
+use Rattle.segment.specs.Segment.{Outranks, Delivery, handedOver}
+use Rattle.segment.proofs.Standing.{On}
 use Rattle.segment.proofs.Handing.{told, handed}
-use Rattle.segment.proofs.States.{Beats, never-made, steps-down, stands-fast}
-
-reached-held : (m : Memory) → Reached m → Held (m .words)
-reached-held m h =
-    subst (λ (x : Memory). Held (x .words)) (sym (h .reached))
-    (history-held (begun (h .primary) (h .lists)) (h .history) (h .given) (empty-held (h .primary)))
-
-module _ (vrid interval : ℕ) (addresses : List ℕ) (m : Memory) (stands : Stands vrid interval addresses m) where
-  pub stands-on : On vrid interval addresses (primaryAddress m) (routerOf vrid m .priority) m
-  stands-on =
-      record {
-        held = reached-held m (stands .history);
-        found = found-is _ (stands .named);
-        interval-is = stands .interval-is;
-        addresses-are = stands .addresses-are;
-        primary-is = refl;
-        priority-is = refl;
-      }
-
-  abbrev place : ℕ
-  place = placeAt vrid (m .words)
-
-  vrid-is : routerOf vrid m .vrid ≡ vrid
-  vrid-is = on-vrid vrid interval addresses _ _ m stands-on
-
-  pub vrid-small : vrid < 256
-  vrid-small = omega (arith, vrid-is, read-in-range (m .words) place .vrid)
-
-  pub interval-small : interval < 256
-  interval-small = omega (arith, stands .interval-is, read-in-range (m .words) place .interval)
-
-  pub priority-small : routerOf vrid m .priority < 256
-  priority-small = read-in-range (m .words) place .priority
-
-  pub priority-some : 1 ≤ routerOf vrid m .priority
-  priority-some = on-configured vrid interval addresses _ _ m stands-on .1
-
-  -- its advertisement is the segment's, with its own priority and address
-  pub advertised : advertisementOf vrid m ≡ told vrid interval addresses (routerOf vrid m .priority) (primaryAddress m)
-  unfolding frameOf
-  advertised = rw (vrid-is, stands .interval-is, stands .addresses-are)
+use Rattle.segment.proofs.States.{never-made, steps-down, stands-fast}
+use Rattle.segment.proofs.Reached.{stands-on, advertised, vrid-small, interval-small, priority-small, priority-some}
+use Rattle.segment.proofs.Reached.{primary-small, list-small, list-right}
 
 module _ (vrid interval : ℕ) (addresses : List ℕ) (then : List Memory) (segment : Segment vrid interval addresses then) where
   abbrev pub priorityOf : ℕ → ℕ
@@ -121,9 +73,10 @@ module _ (vrid interval : ℕ) (addresses : List ℕ) (then : List Memory) (segm
     next-is =
         let m = stationAt then (d .from) in
         subst After (sym heard)
-        (handed vrid interval addresses (priorityOf (d .from)) (addressOf (d .from)) (segment .bytes) (segment .listed)
-        (vrid-small vrid interval addresses m stands) (interval-small vrid interval addresses m stands)
-        (priority-small vrid interval addresses m stands) (stands .fits) (priority-some vrid interval addresses m stands)
+        (handed vrid interval addresses (priorityOf (d .from)) (addressOf (d .from)) (list-small vrid interval addresses m stands)
+        (list-right vrid interval addresses m stands) (vrid-small vrid interval addresses m stands)
+        (interval-small vrid interval addresses m stands) (priority-small vrid interval addresses m stands)
+        (primary-small vrid interval addresses m stands) (priority-some vrid interval addresses m stands)
         (addressOf (d .to)) (priorityOf (d .to)) here (standing .on (d .to) receiver) (d .room))
 
     on-test : (i : ℕ) → i < length then → (i ≡ d .to) ⊎ (i ≡ d .to → ⊥)

@@ -2,10 +2,10 @@
 -- Assumes nothing.
 use mathlib.Core.Path.{_≡_, refl, sym, ap, subst, _∙_}
 use mathlib.Core.List.{List, [], _∷_}
-use mathlib.Core.Bool.{Bool, true, false, cond, not, _&&_, _||_}
+use mathlib.Core.Bool.{Bool, true, false, cond, not, _||_}
 use Prim.Native.Nat.{ℕ, _+_, _*_, _/_, _^_, _≤_, _<_}
 use native.Mathlib.Omega.{arith}
-use lib.Dec.{eqb, leb, ltb}
+use lib.Dec.{eqb, leb}
 use lib.ListN.{length, take, drop}
 use borrow.Author.Tests.{eq-eqb, ne-eqb, le-ltb}
 use Rattle.sums.specs.Sum.{Bytes}
@@ -20,26 +20,23 @@ use Rattle.states.specs.declared.record.State.{State}
 use Rattle.states.specs.declared.record.State.the-variants.{Initialize, Backup, Master}
 use Rattle.states.specs.declared.record.Router.{Router}
 use Rattle.states.specs.declared.step.Event.the-variants.{Packet}
-use Rattle.states.specs.declared.step.Writes.{Writes}
 use Rattle.states.specs.declared.step.Writes.the-variants.{Nothing}
 use Rattle.states.specs.declared.step.Outcome.{Outcome}
-use Rattle.states.specs.Step.{stays, waits, hurries, advertises, beats, heardByBackup, heardByMaster, stepIn, stepOf}
+use Rattle.states.specs.Step.{stays, waits, beats, stepIn, stepOf}
 use Rattle.router.specs.Accept.{routerRefusal, refusedOf, acceptedOf}
 use Rattle.router.specs.Timed.{Timed}
-use Rattle.router.proofs.Kept.{Kept, step-keeps}
 use Rattle.router.proofs.Timed.{step-timed}
-use Rattle.output.specs.Output.{needOf}
-use Rattle.places.specs.declared.place.Found.{Found}
-use Rattle.places.specs.declared.place.Found.the-variants.{At}
-use Rattle.places.specs.Place.{primaryOf, recordAt, setRecord}
+use Rattle.places.specs.Place.{primaryOf, setEvent, countAtPlace}
 use Rattle.places.proofs.Records.{read-in-range}
-use Rattle.events.specs.Lists.{listAt, theirList, listsMatch}
-use Rattle.events.specs.Result.{Result, routerPlace, actedOf}
-use Rattle.packets.specs.Packets.{refusalAt, acceptedAt, heardAt, soughtAt, judgedAt, heardOf}
+use Rattle.events.specs.Lists.{theirList, listsMatch}
+use Rattle.events.specs.Result.{actedOf}
+use Rattle.packets.specs.Packets.{refusalAt, acceptedAt, heardAt, heardOf}
 use Rattle.histories.specs.Histories.{packet, Memory, called}
+use Rattle.histories.proofs.Changed.{Changed, event-changed, count-changed}
+use Rattle.histories.proofs.Histories.{accepted-unchanged}
 use Rattle.events.proofs.Matching.{and-false}
-use Rattle.segment.specs.Segment.{routerOf, addressesOf, primaryAddress}
-use Rattle.segment.proofs.Standing.{placeAt, On, on-sound, on-configured, stored-router, stored-on}
+use Rattle.segment.specs.Segment.{routerOf}
+use Rattle.segment.proofs.Standing.{placeAt, On, word, on-sound, on-configured, changed-router, changed-on}
 
 -- an address list matches itself
 match-self : (a : List ℕ) → listsMatch a a ≡ true
@@ -85,7 +82,7 @@ module _ (vrid interval : ℕ) (addresses : List ℕ) (q source : ℕ) where
     fit : Writable addresses (50 + length addresses)
     fit = frame-fits addresses listed
 
-    judged : judgedOf told ≡ Accepted said
+    pub judged : judgedOf told ≡ Accepted said
     unfolding messageOf
     judged = accepted vrid q interval source (50 + length addresses) addresses v p i s bytes fit
 
@@ -124,31 +121,34 @@ module _ (vrid interval : ℕ) (addresses : List ℕ) (q source : ℕ) where
 
       -- what it comes to: the owner counts 10, any other router takes the event
       outcome : Outcome
-      outcome = stepOf (primaryOf words) (acceptedOf r) (Packet q source)
+      outcome = acceptedAt words place said
 
       abbrev after : Bool → Router
       after t = cond t (refusedOf r 10) (outcome .router)
 
-      acted : actedOf words (m .lists) place outcome 0 room .words ≡ setRecord words place (outcome .router)
+      abbrev left : Bool → List ℕ
+      left t = cond t (countAtPlace words place 10) (setEvent words place (outcome .router))
+
+      acted : actedOf words (m .lists) place outcome 0 room .words ≡ setEvent words place (outcome .router)
       unfolding actedOf outcome
       acted = rw (quiet (primaryOf words) (acceptedOf r) q source some, le-ltb (length room) 0 (omega arith))
 
-      heard-test : (t : Bool) → eqb priority 255 ≡ t
-          → heardAt words (m .lists) place told said room .words ≡ setRecord words place (after t)
+      heard-test : (t : Bool) → eqb priority 255 ≡ t → heardAt words (m .lists) place told said room .words ≡ left t
       unfolding outcome
       heard-test true e = rw (refusal, e)
       heard-test false e = rw (refusal, e) acted
 
-      heard : called m (packet told room) .words ≡ setRecord words place (after (eqb priority 255))
+      heard : called m (packet told room) .words ≡ left (eqb priority 255)
       unfolding heardOf
       heard = rw (judged, on .found) (heard-test (eqb priority 255) refl)
 
-      kept : (t : Bool) → Kept r (after t)
+      below : place < 255
+      below = word vrid interval addresses primary priority m on .0
+
+      changed : (t : Bool) → Changed place words (left t) (after t)
       unfolding outcome
-      kept true = record { vrid = refl; priority = refl; interval = refl; preempt = refl; count = refl }
-      kept false =
-          let k = step-keeps (primaryOf words) (acceptedOf r) (Packet q source) in
-          record { vrid = k .vrid; priority = k .priority; interval = k .interval; preempt = k .preempt; count = k .count }
+      changed true = count-changed words place 10 below (on .held .long) (omega arith) (omega arith)
+      changed false = event-changed words place (outcome .router) below (on .held .long) (accepted-unchanged words place said)
 
       in-time : Timed r
       in-time = on-sound vrid interval addresses primary priority m on .timed
@@ -162,7 +162,7 @@ module _ (vrid interval : ℕ) (addresses : List ℕ) (q source : ℕ) where
           (primaryOf words) (Packet q source) in-time
 
       abbrev heard-by : Memory
-      heard-by = record { words = setRecord words place (after (eqb priority 255)); lists = m .lists }
+      heard-by = record { words = left (eqb priority 255); lists = m .lists }
 
       same : called m (packet told room) ≡ heard-by
       same = ap (λ (w : List ℕ). record { words = w; lists = m .lists }) heard
@@ -170,8 +170,8 @@ module _ (vrid interval : ℕ) (addresses : List ℕ) (q source : ℕ) where
       handed-on : On vrid interval addresses primary priority (called m (packet told room))
       handed-on =
           subst (On vrid interval addresses primary priority) (sym same)
-          (stored-on vrid interval addresses primary priority m on (after (eqb priority 255)) (kept (eqb priority 255))
-          (timed (eqb priority 255)))
+          (changed-on vrid interval addresses primary priority m on (left (eqb priority 255)) (after (eqb priority 255))
+          (changed (eqb priority 255)) (timed (eqb priority 255)))
 
       state-test : (t : Bool) → after t .state
           ≡ cond t (r .state) (stepIn (r .state) (Packet q source) primary (acceptedOf r) .router .state)
@@ -184,7 +184,8 @@ module _ (vrid interval : ℕ) (addresses : List ℕ) (q source : ℕ) where
       handed-state =
           ap (λ (x : Memory). routerOf vrid x .state) same
           ∙ ap (λ (x : Router). x .state)
-          (stored-router vrid interval addresses primary priority m on (after (eqb priority 255)) (kept (eqb priority 255)))
+          (changed-router vrid interval addresses primary priority m on (left (eqb priority 255)) (after (eqb priority 255))
+          (changed (eqb priority 255)))
           ∙ state-test (eqb priority 255)
 
       -- the station stands as it did, in the state that the event leads to; an owner's stays

@@ -1,5 +1,6 @@
 pub mod Standing
 pub mod Handing
+pub mod Reached
 pub mod States
 pub mod Ranks
 pub mod Deliveries

@@ -4,14 +4,12 @@ use mathlib.Core.Path.{_≡_, refl, sym, ap, subst, _∙_}
 use mathlib.Core.Logic.{_⊎_, inl, inr}
 use mathlib.Core.List.{List, [], _∷_, _++_}
 use mathlib.Core.Bool.{Bool, true, false, cond}
-use Prim.Native.Nat.{ℕ, zero, suc, _+_, _-_, _^_, _≤_, _<_}
+use Prim.Native.Nat.{ℕ, zero, suc, _+_, _-_, _≤_, _<_}
 use native.Mathlib.Nat.{add-suc, suc-add}
 use native.Mathlib.Omega.{arith}
 use lib.Dec.{eqb, ltb}
 use lib.ListN.{length}
 use borrow.Author.Tests.{le-ltb, ltb-false, eqb-true, eqb-false}
-use Rattle.sums.proofs.Bytes.{bytes-each}
-use Rattle.writing.specs.Writing.{addressBytesWrong}
 use Rattle.states.specs.declared.record.State.the-variants.{Master}
 use Rattle.histories.specs.Histories.{Memory}
 use Rattle.histories.proofs.Held.{same-or-not}
@@ -75,11 +73,8 @@ late-at : (i : ℕ) → i < 16 → IsMaster 1 (stationAt sixteen i) → 8 ≤ i
 late-at i l h = late i (sym (state-at i l) ∙ h)
 
 sixteen-segment : Segment 1 1 virtualAddress sixteen
-unfolding addressBytesWrong
 sixteen-segment =
     record {
-      bytes = bytes-each virtualAddress (omega arith);
-      listed = refl;
       some = omega (arith, row-length 0 16);
       few = omega (arith, row-length 0 16);
       each =

@@ -1,27 +1,26 @@
--- A station of a segment: what its history leaves of it, and what storing its router again keeps.
+-- A station of a segment: what its history leaves of it, and what a change of its router keeps.
 -- Assumes nothing.
-use mathlib.Core.Path.{_≡_, refl, sym, ap, subst, _∙_}
-use mathlib.Core.Logic.{_⊎_, inl, inr}
+use mathlib.Core.Path.{_≡_, refl, sym, ap, _∙_}
 use mathlib.Core.List.{List}
-use mathlib.Core.Bool.{Bool, true, false, cond}
-use Prim.Native.Nat.{ℕ, zero, suc, _≤_, _<_}
+use mathlib.Core.Bool.{true}
+use Prim.Native.Nat.{ℕ, _≤_, _<_}
 use native.Mathlib.Omega.{arith}
 use lib.Dec.{eqb}
-use lib.ListN.{length, getD}
+use lib.ListN.{getD}
 use Rattle.states.specs.declared.record.Router.{Router}
 use Rattle.router.specs.Timed.{Timed}
-use Rattle.router.proofs.Kept.{Kept}
 use Rattle.places.specs.declared.place.Found.{Found}
 use Rattle.places.specs.declared.place.Found.the-variants.{At, Nothing}
-use Rattle.places.specs.Place.{baseOf, primaryOf, recordAt, setRecord, placeFrom, placeOf, refusalCount}
-use Rattle.places.proofs.Records.{record-same}
-use Rattle.places.proofs.Words.{first-same, first-other, store-count}
+use Rattle.places.specs.Place.{baseOf, recordAt}
+use Rattle.places.proofs.Beside.{beside-first, beside-primary}
 use Rattle.events.specs.Lists.{listAt}
 use Rattle.events.specs.Result.{routerPlace}
 use Rattle.configuring.specs.Configuring.{isFound, placeIn}
 use Rattle.histories.specs.Histories.{Sound, Memory}
 use Rattle.events.proofs.Sought.{sought-word}
-use Rattle.histories.proofs.Held.{Held, kept-range, replace-held, same-or-not}
+use Rattle.histories.proofs.Changed.{Changed}
+use Rattle.histories.proofs.Held.{Held, changed-held}
+use Rattle.histories.proofs.Stays.{same-router}
 use Rattle.segment.specs.Segment.{routerOf, addressesOf, primaryAddress}
 
 -- the place of the segment's virtual router
@@ -40,7 +39,7 @@ pub record On (vrid interval : ℕ) (addresses : List ℕ) (primary priority : �
 -- its router is in use
 module _ (vrid interval : ℕ) (addresses : List ℕ) (primary priority : ℕ) (m : Memory)
     (on : On vrid interval addresses primary priority m) where
-  word : (placeAt vrid (m .words) < 255) × (getD (m .words) (baseOf (placeAt vrid (m .words))) 0 ≡ vrid) × (vrid ≡ 0 → ⊥)
+  pub word : (placeAt vrid (m .words) < 255) × (getD (m .words) (baseOf (placeAt vrid (m .words))) 0 ≡ vrid) × (vrid ≡ 0 → ⊥)
   word = sought-word (m .words) vrid (placeAt vrid (m .words)) (on .found)
 
   pub on-sound : Sound (m .words) (placeAt vrid (m .words))
@@ -49,81 +48,52 @@ module _ (vrid interval : ℕ) (addresses : List ℕ) (primary priority : ℕ) (
   pub on-vrid : routerOf vrid m .vrid ≡ vrid
   on-vrid = sym (on-sound .named) ∙ word .1
 
-  pub on-configured : (1 ≤ routerOf vrid m .interval) × (1 ≤ routerOf vrid m .priority)
-  on-configured = on-sound .configured (λ z. word .2 (sym (word .1) ∙ z))
+  pub on-used : ¬ (getD (m .words) (baseOf (placeAt vrid (m .words))) 0 ≡ 0)
+  on-used z = word .2 (sym (word .1) ∙ z)
 
--- where every place has the same first word, the same place is found
-same-found : (a b : List ℕ) (v i n : ℕ) → ((q : ℕ) → getD a (baseOf q) 0 ≡ getD b (baseOf q) 0)
-    → placeFrom a v i n ≡ placeFrom b v i n
-unfolding placeFrom
-same-found a b v i zero h = refl
-same-found a b v i (suc n) h =
-    ap (λ (w : ℕ). cond (eqb w v) (At i) (placeFrom a v (suc i) n)) (h i)
-    ∙ ap (λ (f : Found). cond (eqb (getD b (baseOf i) 0) v) (At i) f) (same-found a b v (suc i) n h)
-
-same-place : (a b : List ℕ) (v : ℕ) → ((q : ℕ) → getD a (baseOf q) 0 ≡ getD b (baseOf q) 0) → routerPlace a v ≡ routerPlace b v
-unfolding routerPlace placeOf
-same-place a b v h = ap (λ (f : Found). cond (eqb v 0) Nothing f) (same-found a b v 0 255 h)
-
--- a router that is configured as before stands where it stood
-module _ (words : List ℕ) (held : Held words) (p : ℕ) (below : p < 255) (r : Router) (kept : Kept (recordAt words p) r) where
-  first-test : (q : ℕ) → (q ≡ p) ⊎ (q ≡ p → ⊥) → getD (setRecord words p r) (baseOf q) 0 ≡ getD words (baseOf q) 0
-  first-test q (inl x) =
-      ap (λ (k : ℕ). getD (setRecord words p r) (baseOf k) 0) x
-      ∙ first-same words p r below (held .long)
-      ∙ kept .vrid
-      ∙ sym (held .sound p below .named)
-      ∙ ap (λ (k : ℕ). getD words (baseOf k) 0) (sym x)
-  first-test q (inr x) = first-other words p r below (held .long) q x
-
-  pub stored-place : (v : ℕ) → routerPlace (setRecord words p r) v ≡ routerPlace words v
-  stored-place v = same-place (setRecord words p r) words v (λ q. first-test q (same-or-not q p))
-
-  pub stored-primary : primaryOf (setRecord words p r) ≡ primaryOf words
-  unfolding primaryOf refusalCount
-  stored-primary = store-count words p r below (held .long) 0 (omega arith)
-
-  pub stored-record : recordAt (setRecord words p r) p ≡ r
-  stored-record = record-same words p r below (held .long) (kept-range words p r kept)
+  pub on-configured : (1 ≤ routerOf vrid m .interval) × (1 ≤ routerOf vrid m .priority) × (1 ≤ routerOf vrid m .count)
+      × (routerOf vrid m .count ≤ 16)
+  on-configured = on-sound .configured on-used
 
 pub found-is : (f : Found) → isFound f ≡ true → f ≡ At (placeIn f)
 found-is (At p) e = refl
 found-is Nothing e = absurd (let z : _≡_ {A = ℕ} 0 1 = cc in omega arith)
 
--- storing the segment's router again leaves the station where it stood, in the state that was stored
+-- where the segment's router changes and nothing else does, the station stands where it stood
 module _ (vrid interval : ℕ) (addresses : List ℕ) (primary priority : ℕ) (m : Memory)
-    (on : On vrid interval addresses primary priority m) (r : Router) (kept : Kept (routerOf vrid m) r) where
+    (on : On vrid interval addresses primary priority m) (words : List ℕ) (r : Router)
+    (changed : Changed (placeAt vrid (m .words)) (m .words) words r) where
   abbrev place : ℕ
   place = placeAt vrid (m .words)
 
-  abbrev stored : Memory
-  stored = record { words = setRecord (m .words) place r; lists = m .lists }
+  abbrev next : Memory
+  next = record { words = words; lists = m .lists }
 
-  below : place < 255
-  below = sought-word (m .words) vrid place (on .found) .0
+  found-same : routerPlace words vrid ≡ routerPlace (m .words) vrid
+  found-same =
+      same-router words (m .words) vrid
+      (λ q. ap (λ (x : ℕ). eqb x vrid) (beside-first place (m .words) words (changed .beside) q))
 
-  place-is : placeAt vrid (stored .words) ≡ place
-  place-is = ap placeIn (stored-place (m .words) (on .held) place below r kept vrid)
+  place-is : placeAt vrid words ≡ place
+  place-is = ap placeIn found-same
 
-  pub stored-router : routerOf vrid stored ≡ r
-  stored-router =
-      ap (recordAt (stored .words)) place-is ∙ stored-record (m .words) (on .held) place below r kept
+  pub changed-router : routerOf vrid next ≡ r
+  changed-router = ap (recordAt words) place-is ∙ changed .here
 
-  same-list : addressesOf vrid stored ≡ addressesOf vrid m
+  same-list : addressesOf vrid next ≡ addressesOf vrid m
   same-list =
-      ap (λ (k : ℕ). listAt (m .lists) k (routerOf vrid stored .count)) place-is
-      ∙ ap (λ (n : ℕ). listAt (m .lists) place n) (ap (λ (x : Router). x .count) stored-router ∙ kept .count)
+      ap (λ (k : ℕ). listAt (m .lists) k (routerOf vrid next .count)) place-is
+      ∙ ap (λ (n : ℕ). listAt (m .lists) place n) (ap (λ (x : Router). x .count) changed-router ∙ changed .kept .count)
 
-  pub stored-on : Timed r → On vrid interval addresses primary priority stored
-  stored-on timed =
+  pub changed-on : Timed r → On vrid interval addresses primary priority next
+  changed-on timed =
       record {
-        held = replace-held (m .words) (on .held) place below r kept timed;
-        found =
-            stored-place (m .words) (on .held) place below r kept vrid
-            ∙ on .found
-            ∙ ap At (sym place-is);
-        interval-is = ap (λ (x : Router). x .interval) stored-router ∙ kept .interval ∙ on .interval-is;
+        held =
+            changed-held (m .words) words (on .held) place (word vrid interval addresses primary priority m on .0)
+            (on-used vrid interval addresses primary priority m on) r changed timed;
+        found = found-same ∙ on .found ∙ ap At (sym place-is);
+        interval-is = ap (λ (x : Router). x .interval) changed-router ∙ changed .kept .interval ∙ on .interval-is;
         addresses-are = same-list ∙ on .addresses-are;
-        primary-is = stored-primary (m .words) (on .held) place below r kept ∙ on .primary-is;
-        priority-is = ap (λ (x : Router). x .priority) stored-router ∙ kept .priority ∙ on .priority-is;
+        primary-is = beside-primary place (m .words) words (changed .beside) ∙ on .primary-is;
+        priority-is = ap (λ (x : Router). x .priority) changed-router ∙ changed .kept .priority ∙ on .priority-is;
       }

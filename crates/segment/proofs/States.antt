@@ -6,13 +6,12 @@ use mathlib.Core.Bool.{Bool, true, false, cond, not, _&&_, _||_}
 use Prim.Native.Nat.{ℕ, _≤_, _<_}
 use native.Mathlib.Omega.{arith}
 use lib.Dec.{eqb, leb, ltb}
-use borrow.Author.Tests.{eqb-true, eqb-false, ltb-true, ltb-false, ne-eqb, eq-eqb, lt-ltb}
+use borrow.Author.Tests.{eqb-true, ltb-true, ne-eqb, eq-eqb, lt-ltb}
 use Rattle.states.specs.declared.record.State.{State}
 use Rattle.states.specs.declared.record.State.the-variants.{Initialize, Backup, Master}
 use Rattle.states.specs.declared.record.Router.{Router}
 use Rattle.states.specs.declared.step.Event.the-variants.{Packet}
-use Rattle.states.specs.declared.step.Outcome.{Outcome}
-use Rattle.states.specs.Step.{stays, waits, hurries, advertises, beats, stepIn}
+use Rattle.states.specs.Step.{stays, waits, hurries, beats, stepIn}
 use Rattle.router.specs.Accept.{acceptedOf}
 
 pub not-master : Backup ≡ Master → ⊥

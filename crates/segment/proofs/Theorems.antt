@@ -9,14 +9,16 @@ use lib.ListN.{length}
 use lib.Seq.{getD-set-other}
 use Rattle.states.specs.declared.record.State.{State}
 use Rattle.states.specs.declared.record.State.the-variants.{Initialize, Backup, Master}
+use Rattle.configuring.specs.Configuring.{isFound}
 use Rattle.histories.specs.Histories.{Memory}
 use Rattle.histories.proofs.Held.{same-or-not}
-use Rattle.segment.specs.Segment.{routerOf, primaryAddress, IsMaster, stationAt, Segment, Outranks}
+use Rattle.segment.specs.Segment.{routerOf, IsMaster, stationAt, Segment, Outranks}
 use Rattle.segment.specs.Segment.{Delivery, handedOver, afterAll, FromMasters, Has}
 use Rattle.segment.specs.Theorems.{OneMaster, OneMasterRemains, MakesNoMaster, BeatenBy, NamesWhoBeatIt, LoneMaster}
 use Rattle.segment.proofs.States.{not-master}
 use Rattle.segment.proofs.Ranks.{above-asym, above-either, Greatest, the-greatest}
-use Rattle.segment.proofs.Deliveries.{priority-small, priorityOf, addressOf, Standing, begins, goes-on, makes-none}
+use Rattle.segment.proofs.Reached.{priority-small}
+use Rattle.segment.proofs.Deliveries.{priorityOf, addressOf, Standing, begins, goes-on, makes-none}
 use Rattle.segment.proofs.Deliveries.{other, goes-down, stands-up}
 
 master-or-not : (s : State) → (s ≡ Master) ⊎ (s ≡ Master → ⊥)
@@ -123,6 +125,7 @@ module _ (vrid interval : ℕ) (addresses : List ℕ) (then : List Memory) (segm
       let b = begins vrid interval addresses then segment in
       record {
         stations = all-standing then b ds v .same;
+        found = λ i l. ap isFound (all-standing then b ds v .on i l .found);
         station = top .which;
         below = top .below;
         was = top .chosen;

@@ -3,10 +3,9 @@ use Prim.Native.Nat.{ℕ, _^_, _≤_, _<_}
 use mathlib.Core.Path.{_≡_}
 use mathlib.Core.Logic.{_⊎_}
 use mathlib.Core.List.{List, [], _∷_}
-use mathlib.Core.Bool.{true, false}
+use mathlib.Core.Bool.{true}
 use lib.ListN.{length, getD, set, drop}
 use Rattle.sums.specs.Sum.{Bytes}
-use Rattle.writing.specs.Writing.{addressBytesWrong}
 use Rattle.states.specs.declared.record.Router.{Router}
 use Rattle.states.specs.declared.record.State.the-variants.{Master}
 use Rattle.states.specs.declared.step.Writes.the-variants.{Advertisement}
@@ -33,7 +32,12 @@ IsMaster vrid m = routerOf vrid m .state ≡ Master
 -- "after any history": a table that calls have led to from an empty one
 pub record Reached (m : Memory) : Type 0 where
   pub primary : ℕ
+  -- "Addresses are 32-bit numbers"
+  pub fits : primary < 2 ^ 32
   pub lists : List ℕ
+  -- the lent bytes for the lists, 64 for each of 255 places
+  pub bytes : Bytes lists
+  pub long : length lists ≡ 16320
   pub history : List Call
   -- "VRID, priority and interval come as bytes"
   pub given : GivenAll history
@@ -42,8 +46,6 @@ pub record Reached (m : Memory) : Type 0 where
 -- "with the same virtual router number, interval and address list"
 pub record Stands (vrid interval : ℕ) (addresses : List ℕ) (m : Memory) : Type 0 where
   pub history : Reached m
-  -- "Addresses are 32-bit numbers"
-  pub fits : primaryAddress m < 2 ^ 32
   pub named : isFound (routerPlace (m .words) vrid) ≡ true
   pub interval-is : routerOf vrid m .interval ≡ interval
   pub addresses-are : addressesOf vrid m ≡ addresses
@@ -53,10 +55,8 @@ abbrev pub stationAt : List Memory → ℕ → Memory
 stationAt stations i = getD stations i (begun 0 [])
 
 -- "1 to 16 stations on one segment .. no two with the same primary address, at most one with priority 255, and at least one
--- Master", with 1 to 16 virtual addresses of 4 bytes each
+-- Master"
 pub record Segment (vrid interval : ℕ) (addresses : List ℕ) (stations : List Memory) : Type 0 where
-  pub bytes : Bytes addresses
-  pub listed : addressBytesWrong addresses ≡ false
   pub some : 1 ≤ length stations
   pub few : length stations ≤ 16
   pub each : (i : ℕ) → i < length stations → Stands vrid interval addresses (stationAt stations i)
