@@ -2,7 +2,7 @@
 -- Assumes nothing.
 use mathlib.Core.Path.{_≡_, refl}
 use mathlib.Core.Logic.{_⊎_, inl, inr}
-use mathlib.Core.Bool.{Bool, true, false, cond, not, _||_}
+use mathlib.Core.Bool.{Bool, true, false, cond, not, _&&_, _||_}
 use mathlib.Core.List.{List}
 use Prim.Native.Nat.{ℕ, _+_}
 use lib.Dec.{eqb, ltb, leb}
@@ -19,7 +19,7 @@ use Rattle.states.specs.declared.step.Outcome.{Outcome}
 use Rattle.states.specs.Step.{stays, waits, hurries, advertises, beats, heardByBackup, heardByMaster, stepIn, stepOf}
 use Rattle.router.specs.Accept.{acceptedOf}
 use Rattle.station.specs.declared.station.Station.{Station}
-use Rattle.station.specs.Station.{Result, listOf, withRouter, withFrame}
+use Rattle.station.specs.Station.{Result, hasRouter, listOf, withRouter, withFrame}
 use Rattle.station.specs.Acting.{writtenBy, neededBy, keptBy, actedBy}
 use Rattle.hearing.specs.Hearing.{countedBy, refusalBy, acceptedOutcome, acceptedBy, judgedBy, heardBy}
 
@@ -76,7 +76,7 @@ judged : (j : Judged) (s : Station) (packet room : List ℕ) → KeptOrMaster s 
 judged (Refused number) s packet room = counted s number
 judged (Accepted f) s packet room =
     let quiet = packet-step (s .primary) (acceptedOf (s .router)) (f .priority) (f .source) in
-    either-kept s (eqb (f .vrid) (s .router .vrid)) (acceptedBy s packet f room) _
+    either-kept s (hasRouter s && eqb (f .vrid) (s .router .vrid)) (acceptedBy s packet f room) _
     (either-kept s (eqb (refusalBy s packet f) 0) _ _ (acted s (acceptedOutcome s f) room quiet) (inl (refl, refl)))
     (counted s 9)
 

@@ -151,11 +151,8 @@ module _ (segment : Segment) (running : Running segment) (some : segment .begun 
     stand : Tables vrid (segment .interval) (segment .address) then
     stand =
         let m = shows-master (segment .stations) begin master masters in
-        let named = running .named some in
         let l = segment .stations in
         record {
-          bytes = named .bytes;
-          listed = named .listed;
           some = omega (arith, count, m .0);
           few = omega (arith, count, running .few);
           each =

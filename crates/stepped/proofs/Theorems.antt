@@ -25,6 +25,7 @@ use Rattle.in_tables.specs.Tables.{wordsOf, WellFormed}
 use Rattle.in_tables.proofs.Tables.{first-record, primary-is, found-first, first-list}
 use Rattle.in_tables.proofs.Begun.{made-in-table, made-well-formed}
 use Rattle.segment.specs.Segment.{routerOf, addressesOf, Reached, Stands, advertisementOf}
+use Rattle.histories.proofs.Lists.{zeros-listed}
 use Rattle.stepped.specs.Stepped.{tableOf, Come}
 use Rattle.stepped.specs.Theorems.{ComeWellFormed, ComeOn, ComeReached, ComeStands, ComeRouter, LastSent}
 use Rattle.stepped.proofs.Onward.{Latest, Onward, list-same}
@@ -123,7 +124,10 @@ module _ (vrid interval : ℕ) (addresses : List ℕ) (s : Station) (c : Come vr
         primary = c .primary;
         lists = replicate 16320 0;
         history = begins ∷ history;
-        given = ((c .vrid-byte, c .priority-byte, c .interval-byte), given-history vrid before (c .steps));
+        fits = c .fits;
+        bytes = zeros-listed .bytes;
+        long = zeros-listed .long;
+        given = ((c .vrid-byte, c .priority-byte, c .interval-byte, c .bytes), given-history vrid before (c .steps));
         reached =
             ap tableOf (c .come)
             ∙ sym (history-called vrid before (c .steps) before-formed named)
@@ -134,7 +138,6 @@ module _ (vrid interval : ℕ) (addresses : List ℕ) (s : Station) (c : Come vr
   stands =
       record {
         history = reached;
-        fits = rw (primary-is s formed, on .3) (c .fits);
         named = ap isFound place-is;
         interval-is = ap (λ (r : Router). r .interval) router-is ∙ on .1;
         addresses-are = list-is ∙ on .2;
