@@ -32,6 +32,7 @@ module _ (words lists : List ℕ) (v priority interval : ℕ) (preempt : Bool) (
   configure-done p after listsAfter e f w l =
       record { answer-is = sym e; words-are = rw (e, f, w); lists-are = rw (e, f, l) }
 
+module _ (words : List ℕ) (v priority interval : ℕ) (addresses : List ℕ) where
   -- where nothing is refused, there is a free place
   pub never-full : configureRefusal words v priority interval addresses ≡ 0 → placeOf words 0 ≡ Nothing → ⊥
   unfolding configureRefusal

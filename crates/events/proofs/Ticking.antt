@@ -11,7 +11,6 @@ use Rattle.states.specs.declared.record.State.{State}
 use Rattle.states.specs.declared.record.State.the-variants.{Initialize, Backup, Master}
 use Rattle.states.specs.declared.record.Router.{Router}
 use Rattle.states.specs.declared.step.Event.the-variants.{Timer}
-use Rattle.states.specs.declared.step.Outcome.{Outcome}
 use Rattle.router.specs.declared.clock.Ticked.{Ticked}
 use Rattle.states.specs.Step.{stateNumber, withState, stays, stepOf}
 use Rattle.router.specs.Clock.{falls, fires, tickedIn, tickedOf}
@@ -19,7 +18,7 @@ use Rattle.places.specs.declared.place.Found.the-variants.{At}
 use Rattle.places.specs.Place.{primaryOf, recordAt, setEvent}
 use Rattle.places.proofs.Events.{event-same}
 use Rattle.events.specs.declared.answer.Answered.the-variants.{Done}
-use Rattle.events.specs.Result.{Result, Leaves, actedOf}
+use Rattle.events.specs.Result.{Leaves, actedOf}
 use Rattle.events.specs.Events.{clockedAt}
 use Rattle.events.proofs.Acted.{acted-silent}
 use Rattle.events.proofs.Sought.{leaves-equal}

@@ -5,7 +5,6 @@ use mathlib.Core.List.{List}
 use mathlib.Core.Bool.{false, cond, _||_}
 use lib.Dec.{eqb, ltb}
 use Rattle.states.specs.declared.record.State.the-variants.{Initialize}
-use Rattle.states.specs.declared.record.Counts.{Counts}
 use Rattle.states.specs.declared.record.Router.{Router}
 use Rattle.states.specs.declared.step.Event.{Event}
 use Rattle.states.specs.Step.{stepOf}
@@ -39,7 +38,8 @@ clockedAt (At place) words lists ticks room =
 unfoldable pub clockedOf : List ℕ → List ℕ → ℕ → ℕ → List ℕ → Result
 clockedOf words lists vrid ticks room = clockedAt (routerPlace words vrid) words lists ticks room
 
--- "A question about a VRID answers its state, its remaining timer and its counts": 01's number, and the router that has them
+-- "A question about a VRID answers its state, its remaining timer (0 in Initialize) and its counts": 01's number, and the
+-- router that has them
 pub record Status : Type 0 where
   pub number : ℕ
   pub router : Router
@@ -73,6 +73,7 @@ abbrev pub askedAt : Found → List ℕ → Status
 askedAt Nothing words = record { number = 20; router = noRouter }
 askedAt (At place) words = record { number = 0; router = recordAt words place }
 
+-- a question about a virtual router
 unfoldable pub askedOf : List ℕ → ℕ → Status
 askedOf words vrid = askedAt (routerPlace words vrid) words
 

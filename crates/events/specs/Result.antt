@@ -22,6 +22,7 @@ pub record Answer : Type 0 where
   pub leftover : ℕ
   pub need : ℕ
 
+-- nothing is refused: the bytes written, and the ticks left over
 abbrev pub done : ℕ → ℕ → Answer
 done written leftover = record { number = 0; written = written; leftover = leftover; need = 0 }
 

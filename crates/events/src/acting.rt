@@ -18,7 +18,7 @@ ghost use Rattle.places.specs.Place.{recordAt, setEvent};
 ghost use Rattle.events.specs.Result.{Leaves, routerPlace, actedOf};
 ghost use Rattle.events.specs.Turned.{heardRouter, turnedAt};
 
-// The place of a virtual router.
+// The place of a virtual router, where it has one; number 0 has none.
 pub fn seek(words: &[u32], vrid: u8) -> Found
     requires { ⌜ length (now words) ≡ 4096 ⌝ }
     ensures { λ f. ⌜ f ≡ routerPlace (now (words .entry)) vrid ⌝ }
@@ -51,7 +51,7 @@ pub fn change(words: &mut [u32], place: usize, heard: bool, turn: Turn)
     store_event(words, place, after)
 }
 
-// Stores what an event changes and writes its frames, or tells how much room they need.
+// Stores what an event changes and writes its frames, or refuses by 22 and tells how much room they need.
 pub fn act(
     words: &mut [u32],
     lists: &[u8],

@@ -12,6 +12,8 @@ pub enum Answered {
 
 // What a question is told.
 pub enum Told {
+    // the router's record: its state, its timer and its counts
     Of(Router),
+    // refused by this number
     Refused(u32),
 }

@@ -24,7 +24,7 @@ ghost use Rattle.places.specs.Place.{primaryOf, recordAt};
 ghost use Rattle.events.specs.Result.{Leaves, actedOf};
 ghost use Rattle.events.specs.Events.{happenedOf, clockedAt, clockedOf, askedOf, Tells};
 
-// An event for the router at a place.
+// An event for the router at a place; refuses by 22.
 fn happen_at(
     words: &mut [u32],
     lists: &[u8],
@@ -42,7 +42,7 @@ fn happen_at(
     act(words, lists, place, false, changes, 0, out)
 }
 
-// Startup or shutdown of a virtual router.
+// Startup or shutdown of a virtual router; refuses by 20 or 22.
 pub fn happen(words: &mut [u32], lists: &[u8], vrid: u8, event: Event, out: &mut [u8]) -> Answered
     requires { ⌜ (length (now words) ≡ 4096) × (length (now lists) ≡ 16320) ⌝ }
     ensures { λ r. ⌜ Leaves (happenedOf (now (words .entry)) (now (lists .entry)) vrid event (now (out .entry)))
@@ -54,7 +54,8 @@ pub fn happen(words: &mut [u32], lists: &[u8], vrid: u8, event: Event, out: &mut
     }
 }
 
-// A clock step for the router at a place: in Initialize nothing happens, else the timer falls, or it fires.
+// A clock step for the router at a place: in Initialize nothing happens, else the timer falls, or it fires, or that is
+// refused by 22.
 fn tick_at(words: &mut [u32], lists: &[u8], place: usize, ticks: u32, out: &mut [u8]) -> Answered
     requires { ⌜ (place < 255) × (length (now words) ≡ 4096) × (length (now lists) ≡ 16320) ⌝ }
     ensures { λ r. ⌜ Leaves
@@ -73,7 +74,7 @@ fn tick_at(words: &mut [u32], lists: &[u8], place: usize, ticks: u32, out: &mut 
     act(words, lists, place, false, changes, ticks - remaining, out)
 }
 
-// A clock step of a virtual router.
+// A clock step of a virtual router; refuses by 20 or 22.
 pub fn tick(words: &mut [u32], lists: &[u8], vrid: u8, ticks: u32, out: &mut [u8]) -> Answered
     requires { ⌜ (length (now words) ≡ 4096) × (length (now lists) ≡ 16320) ⌝ }
     ensures { λ r. ⌜ Leaves (clockedOf (now (words .entry)) (now (lists .entry)) vrid ticks (now (out .entry)))
@@ -85,7 +86,7 @@ pub fn tick(words: &mut [u32], lists: &[u8], vrid: u8, ticks: u32, out: &mut [u8
     }
 }
 
-// What a virtual router is at.
+// What a virtual router is at: its record, or refusal 20.
 pub fn tell(words: &[u32], vrid: u8) -> Told
     requires { ⌜ length (now words) ≡ 4096 ⌝ }
     ensures { λ r. ⌜ Tells (askedOf (now (words .entry)) vrid) r ⌝ }

@@ -151,7 +151,7 @@ module _ (number : ℕ) (least : 1 ≤ number) (most : number ≤ 9) where
       same-adds w _ small
       (put-same (eqb (configureRefusal w v priority interval addresses) 0) (placeOf w 0) w
       (newRouter v priority interval preempt (length addresses / 4))
-      (λ p e. found w 0 p e .below) (λ e f. never-full w [] v priority interval preempt addresses (none e) f) long)
+      (λ p e. found w 0 p e .below) (λ e f. never-full w v priority interval addresses (none e) f) long)
   call-adds m (remove v) long small =
       let w = m .words in
       same-adds w _ small

@@ -1,10 +1,10 @@
 -- What a call does to the memory of a table: nothing, a count of the interface, another router at a place in use, a router
 -- configured at the lowest free place, or a place freed. What no call changes follows by these five cases.
 -- Assumes nothing.
-use mathlib.Core.Path.{_≡_, refl, sym, ap, subst, _∙_}
-use mathlib.Core.List.{List, []}
+use mathlib.Core.Path.{_≡_, refl, sym}
+use mathlib.Core.List.{List}
 use mathlib.Core.Bool.{Bool, true, false, cond}
-use Prim.Native.Nat.{ℕ, _*_, _/_, _≤_, _<_}
+use Prim.Native.Nat.{ℕ, _*_, _/_, _≤_}
 use native.Mathlib.Omega.{arith}
 use lib.Dec.{eqb, ltb}
 use lib.ListN.{length}
@@ -102,7 +102,7 @@ module _ (words lists : List ℕ) (gone : ℕ) where
       (cond t (setList lists (placeIn f) addresses) lists)
   configured false f v priority interval preempt addresses s e = moves words same
   configured true Nothing v priority interval preempt addresses s e =
-      absurd (never-full words [] v priority interval preempt addresses (eqb-true _ 0 e) s)
+      absurd (never-full words v priority interval addresses (eqb-true _ 0 e) s)
   configured true (At p) v priority interval preempt addresses s e =
       configures v priority interval preempt addresses p (eqb-true (configureRefusal words v priority interval addresses) 0 e) s
 

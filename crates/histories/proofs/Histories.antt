@@ -157,7 +157,7 @@ configure-test false words held v priority interval preempt addresses a b c e = 
 configure-test true words held v priority interval preempt addresses a b c e =
     let none = eqb-true (configureRefusal words v priority interval addresses) 0 e in
     let p = passed (configureChecks words v priority interval addresses) (omega arith) none in
-    let most = configure-most words [] v priority interval preempt addresses none in
+    let most = configure-most words v priority interval addresses none in
     let count = address-count addresses (p .1 .1 .1 .0) in
     fresh-held (placeOf words 0) (placeOf words v) words held v priority interval preempt (length addresses / 4) refl refl
     (not-false (isFound (placeOf words 0)) (p .1 .1 .1 .1 .1 .0))

@@ -11,5 +11,6 @@ pub mod Rows
 pub mod Stays
 pub mod Standing
 pub mod Kept
+pub mod Done
 pub mod Told
 pub mod Lists

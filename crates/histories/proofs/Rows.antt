@@ -16,7 +16,6 @@ use Rattle.judging.specs.declared.Fields.{Fields}
 use Rattle.judging.specs.declared.Judged.the-variants.{Accepted, Refused as JudgedRefused}
 use Rattle.judging.specs.Judging.{packetChecks as judgingChecks, refusalOf, fieldsOf, judgedOf}
 use Rattle.judging.proofs.Accepted.{refusal-most}
-use Rattle.states.specs.declared.record.Router.{Router}
 use Rattle.states.specs.declared.step.Event.{Event}
 use Rattle.states.specs.declared.step.Outcome.{Outcome}
 use Rattle.router.specs.Accept.{routerRefusal}

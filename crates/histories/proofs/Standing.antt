@@ -152,7 +152,7 @@ module _ (m : Memory) (held : Held (m .words)) (v priority interval : ℕ) (pree
   unfolding configureRefusal
   fresh-at p s =
       let checks = passed (configureChecks (m .words) v priority interval addresses) (omega arith) none in
-      let most = configure-most (m .words) [] v priority interval preempt addresses none in
+      let most = configure-most (m .words) v priority interval addresses none in
       let below : p < 255 = omega (arith, found (m .words) 0 p s .below) in
       let words : then .words ≡ setRecord (m .words) p fresh = rw (none, s) in
       let first : getD (then .words) (baseOf p) 0 ≡ v
@@ -166,10 +166,10 @@ module _ (m : Memory) (held : Held (m .words)) (v priority interval : ℕ) (pree
 
   begins-at : (f : Found) → length (m .lists) ≡ 16320 → placeOf (m .words) 0 ≡ f → Standing then v priority interval preempt addresses
   unfolding configureRefusal
-  begins-at Nothing long s = absurd (never-full (m .words) [] v priority interval preempt addresses none s)
+  begins-at Nothing long s = absurd (never-full (m .words) v priority interval addresses none s)
   begins-at (At p) long s =
       let checks = passed (configureChecks (m .words) v priority interval addresses) (omega arith) none in
-      let most = configure-most (m .words) [] v priority interval preempt addresses none in
+      let most = configure-most (m .words) v priority interval addresses none in
       let below : p < 255 = omega (arith, found (m .words) 0 p s .below) in
       let lists : then .lists ≡ setList (m .lists) p addresses = rw (none, s) in
       let is-fresh = fresh-at p s .1 in

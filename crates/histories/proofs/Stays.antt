@@ -1,15 +1,15 @@
 -- What no history changes: the primary address, and how a virtual router was configured until it is removed.
 -- Assumes nothing.
 use mathlib.Core.Path.{_≡_, refl, sym, ap, subst, _∙_}
-use mathlib.Core.Logic.{_⊎_, inl, inr, ⊎-elim}
+use mathlib.Core.Logic.{_⊎_, inl, inr}
 use mathlib.Core.List.{List, [], _∷_}
-use mathlib.Core.Bool.{Bool, true, false, cond, _&&_}
-use Prim.Native.Nat.{ℕ, _*_, _/_, _≤_, _<_}
+use mathlib.Core.Bool.{Bool, true, false, cond}
+use Prim.Native.Nat.{ℕ, _*_, _≤_, _<_}
 use native.Mathlib.Omega.{arith}
 use lib.Dec.{eqb}
 use lib.ListN.{length, getD}
 use lib.Seq.{length-paste}
-use borrow.Author.Tests.{eq-eqb, ne-eqb, eqb-true, eqb-false}
+use borrow.Author.Tests.{ne-eqb}
 use Rattle.wire.proofs.Checks.{passed}
 use Rattle.states.specs.declared.record.Router.{Router}
 use Rattle.states.proofs.Kept.{Kept}
@@ -17,13 +17,13 @@ use Rattle.places.specs.declared.place.Found.{Found}
 use Rattle.places.specs.declared.place.Found.the-variants.{At, Nothing}
 use Rattle.places.specs.Place.{baseOf, primaryOf, recordAt, setRecord, placeOf, refusalCount}
 use Rattle.places.proofs.Beside.{beside-first, beside-record, beside-primary}
-use Rattle.places.proofs.Finding.{found, missing, same-place}
+use Rattle.places.proofs.Finding.{found, same-place}
 use Rattle.places.proofs.Records.{record-other}
 use Rattle.places.proofs.Words.{first-same, first-other, store-count, count-first, count-record, count-other}
 use Rattle.events.specs.Lists.{listAt, setList}
 use Rattle.events.specs.Result.{routerPlace}
 use Rattle.events.proofs.Sought.{sought-below, sought-word}
-use Rattle.configuring.specs.Configuring.{isFound, emptyOf, newRouter, freed, configureChecks, configureRefusal}
+use Rattle.configuring.specs.Configuring.{isFound, emptyOf, freed, configureChecks, configureRefusal}
 use Rattle.configuring.proofs.Configures.{configure-most}
 use Rattle.histories.specs.Histories.{Call, Memory, called, after, begun, GivenAll}
 use Rattle.histories.specs.Theorems.{PrimaryStays}
@@ -69,7 +69,7 @@ set-long lists p addresses below most long =
 pub does-long : (words lists : List ℕ) (gone : ℕ) (w l : List ℕ) → length lists ≡ 16320 → Does words lists gone w l → length l ≡ 16320
 does-long words lists gone w l long (moves after moved) = long
 does-long words lists gone w l long (configures v priority interval preempt addresses p e s) =
-    let most = configure-most words [] v priority interval preempt addresses e in
+    let most = configure-most words v priority interval addresses e in
     set-long lists p addresses (omega (arith, found words 0 p s .below)) most long
 does-long words lists gone w l long (frees p e s) = long
 
@@ -165,7 +165,7 @@ module _ (words lists : List ℕ) (held : Held words) (v p : ℕ) (at : routerPl
   still gone w l other (configures u priority interval preempt addresses q e s) =
       let free = found words 0 q s in
       let below : q < 255 = omega (arith, free .below) in
-      let most = configure-most words [] u priority interval preempt addresses e in
+      let most = configure-most words u priority interval addresses e in
       let some : ¬ (0 ≡ v) = λ z. word .2 (sym z) in
       stored-still q 0 _ l below (free .word) some (λ z. new-number u priority interval addresses e z)
       (λ long n few. list-other lists addresses q p n long below most few (elsewhere q 0 (free .word) some))

@@ -269,8 +269,8 @@ module _ (p : ℕ) (below : p < 255) where
       put p below w long (eqb (configureRefusal w v priority interval addresses) 0) (placeOf w 0)
       (newRouter v priority interval preempt (length addresses / 4)) (λ q e. found w 0 q e .below)
       (λ t.
-      let most = configure-most w [] v priority interval preempt addresses (none t) in (
-        never-full w [] v priority interval preempt addresses (none t),
+      let most = configure-most w v priority interval addresses (none t) in (
+        never-full w v priority interval addresses (none t),
         record { vrid = g .0; priority = g .1; interval = g .2; count = omega arith },
       ))
       refl

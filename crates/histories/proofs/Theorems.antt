@@ -2,7 +2,7 @@
 -- Assumes nothing.
 use mathlib.Core.Path.{_≡_, refl, sym, ap, _∙_}
 use mathlib.Core.Logic.{inl, inr, ⊎-elim}
-use mathlib.Core.List.{List, []}
+use mathlib.Core.List.{List}
 use mathlib.Core.Bool.{Bool, true, false, cond}
 use Prim.Native.Nat.{ℕ, _*_, _/_, _≤_, _<_}
 use native.Mathlib.Omega.{arith}
@@ -25,7 +25,7 @@ use Rattle.places.specs.declared.place.Found.the-variants.{At, Nothing}
 use Rattle.places.specs.Place.{primaryOf, recordAt, setRecord, countAtPlace, placeOf}
 use Rattle.places.proofs.Beside.{beside-record}
 use Rattle.places.proofs.Events.{event-beside, count-beside}
-use Rattle.places.proofs.Finding.{found}
+use Rattle.places.proofs.Finding.{found, missing}
 use Rattle.places.proofs.Parts.{part-other, apart}
 use Rattle.places.proofs.Records.{record-other}
 use Rattle.places.proofs.Words.{count-record}
@@ -40,7 +40,7 @@ use Rattle.events.specs.Events.{happenedAt, happenedOf, clockedAt, clockedOf, S
 use Rattle.packets.specs.Packets.{refusalAt, acceptedAt, soughtAt, judgedAt, heardOf}
 use Rattle.packets.proofs.Heard.{refused-range}
 use Rattle.histories.specs.Theorems.{OneResult, OneStatus, OneConfiguring, OneRemoving, EventElsewhere, ClockElsewhere, PacketElsewhere}
-use Rattle.histories.specs.Theorems.{ConfigureElsewhere, ListElsewhere, RemoveElsewhere, LowestFreePlace}
+use Rattle.histories.specs.Theorems.{ConfigureElsewhere, ListElsewhere, RemoveElsewhere, LowestFreePlace, NoFreePlace}
 use Rattle.configuring.proofs.Configures.{configure-most, never-full, never-unknown}
 use Rattle.events.proofs.Sought.{sought-below}
 
@@ -164,7 +164,7 @@ configure-elsewhere words v priority interval preempt addresses q long n =
     let none = eqb-true (configureRefusal words v priority interval addresses) 0 in
     put-elsewhere (eqb (configureRefusal words v priority interval addresses) 0) (placeOf words 0) words
     (newRouter v priority interval preempt (length addresses / 4))
-    q (λ p e. found words 0 p e .below) (λ e f. never-full words [] v priority interval preempt addresses (none e) f)
+    q (λ p e. found words 0 p e .below) (λ e f. never-full words v priority interval addresses (none e) f)
     long n
 
 -- address lists stand side by side, 64 bytes each
@@ -188,7 +188,7 @@ list-elsewhere words lists v priority interval addresses q n long few e =
     let none = eqb-true (configureRefusal words v priority interval addresses) 0 in
     put-list-elsewhere (eqb (configureRefusal words v priority interval addresses) 0) (placeOf words 0) lists addresses q n
     (λ p f. found words 0 p f .below)
-    (λ t. (never-full words [] v priority interval false addresses (none t), configure-most words [] v priority interval false addresses (none t)))
+    (λ t. (never-full words v priority interval addresses (none t), configure-most words v priority interval addresses (none t)))
     long few e
 
 pub remove-elsewhere : RemoveElsewhere
@@ -201,3 +201,6 @@ pub lowest-free-place : LowestFreePlace
 lowest-free-place words p e =
     let l = found words 0 p e in
     (omega (arith, l .below), l .word, λ q b z. l .lowest q (omega arith) b z)
+
+pub no-free-place : NoFreePlace
+no-free-place words e p h free = missing words 0 e p h free

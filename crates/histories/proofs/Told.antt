@@ -7,13 +7,12 @@ use mathlib.Core.Bool.{Bool, true, false, cond, _&&_}
 use Prim.Native.Nat.{ℕ, _<_}
 use native.Mathlib.Omega.{arith}
 use lib.Dec.{eqb}
-use lib.ListN.{length, getD}
+use lib.ListN.{getD}
 use borrow.Author.Tests.{eq-eqb, ne-eqb, eqb-true, eqb-false}
 use Rattle.judging.specs.declared.Fields.{Fields}
 use Rattle.judging.specs.declared.Judged.{Judged}
 use Rattle.judging.specs.declared.Judged.the-variants.{Accepted, Refused}
 use Rattle.judging.specs.Judging.{judgedOf}
-use Rattle.judging.proofs.Accepted.{refused-most, refused-least}
 use Rattle.states.specs.declared.record.Counts.{Counts}
 use Rattle.states.specs.declared.record.Router.{Router}
 use Rattle.places.specs.declared.place.Found.{Found}
@@ -23,14 +22,15 @@ use Rattle.places.proofs.Beside.{beside-first}
 use Rattle.places.proofs.Finding.{found}
 use Rattle.places.proofs.Words.{first-same, first-other, count-first}
 use Rattle.events.specs.Result.{routerPlace}
-use Rattle.events.specs.Events.{Status, noRouter, askedAt, askedOf}
+use Rattle.events.specs.Events.{noRouter, askedAt, askedOf}
+use Rattle.events.proofs.Matching.{and-false}
 use Rattle.events.proofs.Sought.{sought-below, sought-word}
 use Rattle.configuring.specs.Configuring.{noCounts, emptyOf, freed, configureRefusal, removeRefusal}
 use Rattle.configuring.proofs.Configures.{never-full, never-unknown}
 use Rattle.packets.specs.Packets.{heardOf}
 use Rattle.histories.specs.Histories.{Call, configure, remove, startup, shutdown, clock, packet, Given, Memory, called, after}
 use Rattle.histories.specs.Histories.{begun, GivenAll}
-use Rattle.histories.specs.Counts.{becomes, isAt, addressee, hears, becomesMaster, begins, isFor, hearsBy, becomesMasterBy}
+use Rattle.histories.specs.Counts.{isAt, addressee, hears, becomesMaster, begins, isFor, hearsBy, becomesMasterBy}
 use Rattle.histories.specs.Counts.{beginsBy, talliedBy, tallyBy, modulo}
 use Rattle.histories.specs.Standing.{removes}
 use Rattle.histories.specs.Theorems.{ToldCounts}
@@ -40,11 +40,7 @@ use Rattle.histories.proofs.Held.{Held, same-or-not}
 use Rattle.histories.proofs.Histories.{call-held}
 use Rattle.histories.proofs.Standing.{call-still, fresh-at}
 use Rattle.histories.proofs.Stays.{same-router, stored-test, new-number}
-use Rattle.histories.proofs.Tallied.{Bumps, tally-test, Follows, call-follows}
-
-and-false : (b : Bool) → (b && false) ≡ false
-and-false true = refl
-and-false false = refl
+use Rattle.histories.proofs.Tallied.{Bumps, tally-test, call-follows}
 
 -- what a question tells, by where the router stands
 asked-at : (words : List ℕ) (v p : ℕ) → routerPlace words v ≡ At p → askedOf words v .router ≡ recordAt words p
@@ -293,7 +289,7 @@ module _ (v : ℕ) where
         → u ≡ v → configureRefusal (m .words) u priority interval addresses ≡ 0 → (f : Found) → placeOf (m .words) 0 ≡ f
         → told (called m (configure u priority interval preempt addresses) .words) ≡ noCounts
     fresh-told u priority interval preempt addresses g z none Nothing s =
-        absurd (never-full (m .words) [] u priority interval preempt addresses none s)
+        absurd (never-full (m .words) u priority interval addresses none s)
     fresh-told u priority interval preempt addresses g z none (At p) s =
         let fresh = fresh-at m held u priority interval preempt addresses g none p s in
         let w = called m (configure u priority interval preempt addresses) .words in
@@ -304,7 +300,7 @@ module _ (v : ℕ) where
         → configureRefusal (m .words) u priority interval addresses ≡ 0 → (f : Found) → placeOf (m .words) 0 ≡ f
         → routerPlace (called m (configure u priority interval preempt addresses) .words) v ≡ Nothing
     other-nowhere u priority interval preempt addresses n some none Nothing s =
-        absurd (never-full (m .words) [] u priority interval preempt addresses none s)
+        absurd (never-full (m .words) u priority interval addresses none s)
     other-nowhere u priority interval preempt addresses n some none (At p) s =
         let free = found (m .words) 0 p s in
         rw (none, s) (stored-nowhere p _ (omega (arith, free .below)) n (λ z. some (sym z ∙ free .word)))

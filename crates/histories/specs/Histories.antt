@@ -1,5 +1,5 @@
 -- Histories of calls from an empty table, and what holds after every one of them.
-use Prim.Native.Nat.{ℕ, _+_, _%_, _^_, _≤_, _<_}
+use Prim.Native.Nat.{ℕ, _+_, _≤_, _<_}
 use mathlib.Core.Path.{_≡_}
 use mathlib.Core.List.{List, [], _∷_}
 use mathlib.Core.Bool.{Bool, cond}
@@ -10,7 +10,7 @@ use Rattle.states.specs.declared.step.Event.the-variants.{Startup, Shutdown}
 use Rattle.router.specs.Timed.{Timed}
 use Rattle.places.specs.Place.{baseOf, recordAt}
 use Rattle.configuring.specs.Configuring.{emptyOf, configuredWords, configuredLists, removedWords}
-use Rattle.events.specs.Events.{happenedOf, clockedOf, interfaceCount}
+use Rattle.events.specs.Events.{happenedOf, clockedOf}
 use Rattle.packets.specs.Packets.{heardOf}
 
 -- a call as a host makes it: rooms are bytes, and so are packets

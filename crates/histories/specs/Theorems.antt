@@ -1,6 +1,7 @@
 -- The theorems of this crate, as statements: each is proved under the same name in proofs/Theorems.antt, those of
--- the answers in proofs/Rows.antt, of what a call changes in proofs/Kept.antt, of what no history changes in
--- proofs/Stays.antt and Standing.antt, and of counts in proofs/Counted.antt, Tallied.antt and Told.antt.
+-- the answers in proofs/Rows.antt, of what a refusal changes in proofs/Kept.antt and a call that is done in Done.antt, of what
+-- holds after every history in proofs/Histories.antt, Stays.antt and Standing.antt, and of counts in proofs/Counted.antt,
+-- Tallied.antt and Told.antt.
 use Prim.Native.Nat.{ℕ, _+_, _-_, _%_, _^_, _≤_, _<_}
 use mathlib.Core.Path.{_≡_}
 use mathlib.Core.Logic.{_↔_}
@@ -106,6 +107,10 @@ abbrev pub LowestFreePlace : Type 0
 LowestFreePlace =
     (words : List ℕ) (place : ℕ) → placeOf words 0 ≡ At place
     → (place < 255) × Free words place × ((other : ℕ) → other < place → Free words other → ⊥)
+
+-- "19 no free place": where none is found, there is none
+abbrev pub NoFreePlace : Type 0
+NoFreePlace = (words : List ℕ) → placeOf words 0 ≡ Nothing → (place : ℕ) → place < 255 → ¬ Free words place
 
 -- after every history of calls from an empty table: VRIDs are unique, and every place is sound
 abbrev pub AfterEveryHistory : Type 0
@@ -357,7 +362,3 @@ PacketCounts =
     → recordAt (heardOf words lists bytes room .words) place .state ≡ recordAt words place .state
     → recordAt (heardOf words lists bytes room .words) place .timer ≡ recordAt words place .timer
     → OneCount words (heardOf words lists bytes room .words) (baseOf place + 7)
-
--- "19 no free place": where none is found, there is none
-abbrev pub NoFreePlace : Type 0
-NoFreePlace = (words : List ℕ) → placeOf words 0 ≡ Nothing → (place : ℕ) → place < 255 → ¬ Free words place

@@ -30,7 +30,7 @@ either-stays : (t : Bool) (a b : Result) → WellFormed (a .station) → WellFor
 either-stays true a b x y = x
 either-stays false a b x y = y
 
-same-kept : (r after : Router) → after .vrid ≡ r .vrid → after .priority ≡ r .priority → after .interval ≡ r .interval
+pub same-kept : (r after : Router) → after .vrid ≡ r .vrid → after .priority ≡ r .priority → after .interval ≡ r .interval
     → after .preempt ≡ r .preempt → after .count ≡ r .count → Kept r after
 same-kept r after a b c d e = record { vrid = a; priority = b; interval = c; preempt = d; count = e }
 

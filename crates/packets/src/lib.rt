@@ -73,7 +73,7 @@ fn turn_at(words: &[u32], place: usize, fields: Fields) -> Turn
     turn(count_accepted(load(words, place)), primary(words), event)
 }
 
-// The router at a place takes a packet that passed refusals 1 to 13. Most have it write nothing.
+// The router at a place takes a packet that passed refusals 1 to 13, or refuses by 22. Most have it write nothing.
 fn accept_at(
     words: &mut [u32],
     lists: &[u8],
@@ -96,7 +96,7 @@ fn accept_at(
     act(words, lists, place, true, changes, 0, out)
 }
 
-// The router at a place hears a packet that passed refusals 1 to 9.
+// The router at a place hears a packet that passed refusals 1 to 9: it refuses by 10 to 13, which it counts, or by 22.
 fn hear_at(
     words: &mut [u32],
     lists: &[u8],
@@ -119,7 +119,7 @@ fn hear_at(
     accept_at(words, lists, place, fields, out)
 }
 
-// The router that a judged packet is for hears it; where there is none, that is counted.
+// The router that a judged packet is for hears it; where there is none, refuses by 9, which is counted.
 fn hear_judged(
     words: &mut [u32],
     lists: &[u8],
@@ -143,7 +143,7 @@ fn hear_judged(
     }
 }
 
-// A packet of any bytes.
+// A packet of any bytes: done, or the first of refusals 1 to 13, which is counted, and 22.
 pub fn hear(words: &mut [u32], lists: &[u8], packet: &[u8], out: &mut [u8]) -> Answered
     requires { ⌜ (length (now words) ≡ 4096) × (length (now lists) ≡ 16320) ⌝ }
     ensures { λ r. ⌜ Leaves

@@ -18,9 +18,6 @@ pub record Beside (p : ℕ) (words after : List ℕ) : Type 0 where
   pub long : length after ≡ length words
   pub outside : (i : ℕ) → (i ≤ baseOf p) ⊎ (baseOf p + 16 ≤ i) → getD after i 0 ≡ getD words i 0
 
-pub beside-same : (p : ℕ) (words : List ℕ) → Beside p words words
-beside-same p words = record { long = refl; outside = λ i o. refl }
-
 pub beside-then : (p : ℕ) (a b c : List ℕ) → Beside p a b → Beside p b c → Beside p a c
 beside-then p a b c x y =
     record { long = y .long ∙ x .long; outside = λ i o. y .outside i o ∙ x .outside i o }

@@ -70,5 +70,6 @@ countRefusal words number = countWord words number
 abbrev pub routerWord : ℕ → ℕ → ℕ
 routerWord place number = baseOf place + (number - 1)
 
+-- the words with that count one more
 unfoldable pub countAtPlace : List ℕ → ℕ → ℕ → List ℕ
 countAtPlace words place number = countWord words (routerWord place number)

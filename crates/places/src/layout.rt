@@ -14,6 +14,7 @@ fn flag(b: bool) -> u32
     if b { 1 } else { 0 }
 }
 
+// The state that a word stands for: past 1 every one is Master.
 pub fn state_of(word: u32) -> State
     ensures { λ r. ⌜ r ≡ stateOf word ⌝ }
 {

@@ -61,7 +61,8 @@ fn state_word(word: u32, state: State) -> u32
     number
 }
 
-// The table with what an event changes of the router at a place: its state, its timer and its counts.
+// The table with what an event changes of the router at a place: its state, its timer, how many packets it accepted and how
+// often it became Master.
 pub fn store_event(words: &mut [u32], place: usize, r: Router)
     requires { ⌜ (place < 255) × (length (now words) ≡ 4096) ⌝ }
     ensures { λ _. ⌜ now (words .exit) ≡ setEvent (now (words .entry)) place r ⌝ }

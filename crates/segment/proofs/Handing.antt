@@ -35,8 +35,9 @@ use Rattle.histories.specs.Histories.{packet, Memory, called}
 use Rattle.histories.proofs.Changed.{Changed, event-changed, count-changed}
 use Rattle.histories.proofs.Histories.{accepted-unchanged}
 use Rattle.events.proofs.Matching.{and-false}
+use Rattle.histories.specs.Rows.{placeFor}
 use Rattle.segment.specs.Segment.{routerOf}
-use Rattle.segment.proofs.Standing.{placeAt, On, word, on-sound, on-configured, changed-router, changed-on}
+use Rattle.segment.proofs.Standing.{On, word, on-sound, on-configured, changed-router, changed-on}
 
 -- an address list matches itself
 match-self : (a : List ℕ) → listsMatch a a ≡ true
@@ -100,7 +101,7 @@ module _ (vrid interval : ℕ) (addresses : List ℕ) (q source : ℕ) where
       words = m .words
 
       abbrev place : ℕ
-      place = placeAt vrid words
+      place = placeFor words vrid
 
       abbrev r : Router
       r = routerOf vrid m

@@ -19,8 +19,9 @@ use Rattle.histories.proofs.Begun.{empty-held}
 use Rattle.histories.proofs.Histories.{history-held}
 use Rattle.histories.proofs.Lists.{Listed, list-bytes, history-listed}
 use Rattle.histories.proofs.Stays.{primary-stays}
+use Rattle.histories.specs.Rows.{placeFor}
 use Rattle.segment.specs.Segment.{routerOf, primaryAddress, Reached, Stands, advertisementOf}
-use Rattle.segment.proofs.Standing.{placeAt, On, word, on-vrid, on-configured, found-is}
+use Rattle.segment.proofs.Standing.{On, word, on-vrid, on-configured, found-is}
 use Rattle.segment.proofs.Handing.{told}
 
 reached-held : (m : Memory) → Reached m → Held (m .words)
@@ -54,7 +55,7 @@ module _ (vrid interval : ℕ) (addresses : List ℕ) (m : Memory) (stands : Sta
       }
 
   abbrev place : ℕ
-  place = placeAt vrid (m .words)
+  place = placeFor (m .words) vrid
 
   vrid-is : routerOf vrid m .vrid ≡ vrid
   vrid-is = on-vrid vrid interval addresses _ _ m stands-on

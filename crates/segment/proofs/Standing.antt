@@ -21,16 +21,13 @@ use Rattle.events.proofs.Sought.{sought-word}
 use Rattle.histories.proofs.Changed.{Changed}
 use Rattle.histories.proofs.Held.{Held, changed-held}
 use Rattle.histories.proofs.Stays.{same-router}
+use Rattle.histories.specs.Rows.{placeFor}
 use Rattle.segment.specs.Segment.{routerOf, addressesOf, primaryAddress}
-
--- the place of the segment's virtual router
-abbrev pub placeAt : ℕ → List ℕ → ℕ
-placeAt vrid words = placeIn (routerPlace words vrid)
 
 -- how a station stands on a segment, whatever state it is in
 pub record On (vrid interval : ℕ) (addresses : List ℕ) (primary priority : ℕ) (m : Memory) : Type 0 where
   pub held : Held (m .words)
-  pub found : routerPlace (m .words) vrid ≡ At (placeAt vrid (m .words))
+  pub found : routerPlace (m .words) vrid ≡ At (placeFor (m .words) vrid)
   pub interval-is : routerOf vrid m .interval ≡ interval
   pub addresses-are : addressesOf vrid m ≡ addresses
   pub primary-is : primaryAddress m ≡ primary
@@ -39,16 +36,16 @@ pub record On (vrid interval : ℕ) (addresses : List ℕ) (primary priority : �
 -- its router is in use
 module _ (vrid interval : ℕ) (addresses : List ℕ) (primary priority : ℕ) (m : Memory)
     (on : On vrid interval addresses primary priority m) where
-  pub word : (placeAt vrid (m .words) < 255) × (getD (m .words) (baseOf (placeAt vrid (m .words))) 0 ≡ vrid) × (vrid ≡ 0 → ⊥)
-  word = sought-word (m .words) vrid (placeAt vrid (m .words)) (on .found)
+  pub word : (placeFor (m .words) vrid < 255) × (getD (m .words) (baseOf (placeFor (m .words) vrid)) 0 ≡ vrid) × (vrid ≡ 0 → ⊥)
+  word = sought-word (m .words) vrid (placeFor (m .words) vrid) (on .found)
 
-  pub on-sound : Sound (m .words) (placeAt vrid (m .words))
-  on-sound = on .held .sound (placeAt vrid (m .words)) (word .0)
+  pub on-sound : Sound (m .words) (placeFor (m .words) vrid)
+  on-sound = on .held .sound (placeFor (m .words) vrid) (word .0)
 
   pub on-vrid : routerOf vrid m .vrid ≡ vrid
   on-vrid = sym (on-sound .named) ∙ word .1
 
-  pub on-used : ¬ (getD (m .words) (baseOf (placeAt vrid (m .words))) 0 ≡ 0)
+  pub on-used : ¬ (getD (m .words) (baseOf (placeFor (m .words) vrid)) 0 ≡ 0)
   on-used z = word .2 (sym (word .1) ∙ z)
 
   pub on-configured : (1 ≤ routerOf vrid m .interval) × (1 ≤ routerOf vrid m .priority) × (1 ≤ routerOf vrid m .count)
@@ -62,9 +59,9 @@ found-is Nothing e = absurd (let z : _≡_ {A = ℕ} 0 1 = cc in omega arith)
 -- where the segment's router changes and nothing else does, the station stands where it stood
 module _ (vrid interval : ℕ) (addresses : List ℕ) (primary priority : ℕ) (m : Memory)
     (on : On vrid interval addresses primary priority m) (words : List ℕ) (r : Router)
-    (changed : Changed (placeAt vrid (m .words)) (m .words) words r) where
+    (changed : Changed (placeFor (m .words) vrid) (m .words) words r) where
   abbrev place : ℕ
-  place = placeAt vrid (m .words)
+  place = placeFor (m .words) vrid
 
   abbrev next : Memory
   next = record { words = words; lists = m .lists }
@@ -74,7 +71,7 @@ module _ (vrid interval : ℕ) (addresses : List ℕ) (primary priority : ℕ) (
       same-router words (m .words) vrid
       (λ q. ap (λ (x : ℕ). eqb x vrid) (beside-first place (m .words) words (changed .beside) q))
 
-  place-is : placeAt vrid words ≡ place
+  place-is : placeFor words vrid ≡ place
   place-is = ap placeIn found-same
 
   pub changed-router : routerOf vrid next ≡ r

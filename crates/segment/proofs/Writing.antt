@@ -23,9 +23,9 @@ use Rattle.events.specs.Lists.{listAt}
 use Rattle.events.specs.Result.{Result, routerPlace, actedOf}
 use Rattle.events.proofs.Sought.{clocked}
 use Rattle.events.specs.Events.{clockedOf}
+use Rattle.histories.specs.Rows.{placeFor}
 use Rattle.segment.specs.Segment.{routerOf, addressesOf, primaryAddress}
 use Rattle.segment.specs.Theorems.{OwnWriting, AdvertisedPriority}
-use Rattle.segment.proofs.Standing.{placeAt}
 use Rattle.segment.proofs.States.{not-master}
 use Rattle.segment.proofs.Reached.{stands-on, list-long, list-small, list-right}
 use Rattle.segment.proofs.Reached.{vrid-small, interval-small, priority-small, priority-some, primary-small, advertised}
@@ -62,7 +62,7 @@ own-writing vrid interval addresses m ticks room stands master late large =
     let frame = bytesOf Advertisement r (primaryOf (m .words)) list in
     let long = frame-length (r .vrid) (r .priority) (r .interval) (primaryOf (m .words)) list in
     ap (λ (x : List ℕ). drop 14 (take (50 + length addresses) x))
-    (fired-room (m .words) (m .lists) vrid (placeAt vrid (m .words)) ticks room
+    (fired-room (m .words) (m .lists) vrid (placeFor (m .words) vrid) ticks room
     (stands-on vrid interval addresses m stands .found) master late
     (omega (arith, list-long vrid interval addresses m stands)))
     ∙ ap (drop 14)

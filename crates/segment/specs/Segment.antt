@@ -10,18 +10,19 @@ use Rattle.states.specs.declared.record.Router.{Router}
 use Rattle.states.specs.declared.record.State.the-variants.{Master}
 use Rattle.states.specs.declared.step.Writes.the-variants.{Advertisement}
 use Rattle.output.specs.Output.{bytesOf}
-use Rattle.places.specs.Place.{primaryOf, recordAt}
+use Rattle.places.specs.Place.{primaryOf}
 use Rattle.events.specs.Lists.{listAt}
 use Rattle.events.specs.Result.{routerPlace}
-use Rattle.configuring.specs.Configuring.{isFound, placeIn}
+use Rattle.configuring.specs.Configuring.{isFound}
 use Rattle.histories.specs.Histories.{Call, packet, Memory, called, after, begun, GivenAll}
+use Rattle.histories.specs.Rows.{placeFor, recordFor}
 
 -- a station is the memory of its table; of the segment's virtual router it has the record and the address list
 abbrev pub routerOf : ℕ → Memory → Router
-routerOf vrid m = recordAt (m .words) (placeIn (routerPlace (m .words) vrid))
+routerOf vrid m = recordFor (m .words) vrid
 
 abbrev pub addressesOf : ℕ → Memory → List ℕ
-addressesOf vrid m = listAt (m .lists) (placeIn (routerPlace (m .words) vrid)) (routerOf vrid m .count)
+addressesOf vrid m = listAt (m .lists) (placeFor (m .words) vrid) (routerOf vrid m .count)
 
 abbrev pub primaryAddress : Memory → ℕ
 primaryAddress m = primaryOf (m .words)
@@ -39,7 +40,7 @@ pub record Reached (m : Memory) : Type 0 where
   pub bytes : Bytes lists
   pub long : length lists ≡ 16320
   pub history : List Call
-  -- "VRID, priority and interval come as bytes"
+  -- "VRID, priority and interval come as bytes", and so do addresses
   pub given : GivenAll history
   pub reached : m ≡ after (begun primary lists) history
 

@@ -214,7 +214,7 @@ fn became_by(writes: Writes, became: u32) -> u32
     }
 }
 
-// The router with what an event changes.
+// The router with what an event changes, and what it writes.
 pub fn applied(r: Router, t: Turn) -> Outcome
     ensures { λ o. ⌜ o ≡ appliedTo r t ⌝ }
 {
@@ -238,7 +238,7 @@ pub fn applied(r: Router, t: Turn) -> Outcome
     }
 }
 
-// One event on one router.
+// One event on one router: the router afterwards, and what it writes.
 pub fn step(r: Router, primary: u32, event: Event) -> Outcome
     ensures { λ s. ⌜ s ≡ stepOf primary r event ⌝ }
 {

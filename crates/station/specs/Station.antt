@@ -27,7 +27,7 @@ pub record Leaves (result : Result) (stepped : Stepped) (room : List ℕ) : Type
 abbrev pub refuses : ℕ → Station → List ℕ → Result
 refuses number s room = record { answer = Refused number; station = s; room = room }
 
--- whether the table of a station has its router: "VRID 1 to 255", so where the number is 0 it is an empty table
+-- whether the table of a station has its router: "virtual router number (VRID) 1 to 255", so where it is 0 there is none
 abbrev pub hasRouter : Station → Bool
 hasRouter s = not (eqb (s .router .vrid) 0)
 

@@ -23,7 +23,7 @@ use Rattle.states.specs.declared.step.Outcome.{Outcome}
 use Rattle.states.specs.Step.{stepOf}
 use Rattle.router.specs.Clock.{tickedOf}
 use Rattle.router.specs.Accept.{acceptedOf, refusedOf}
-use Rattle.router.proofs.Kept.{step-keeps, ticked-keeps}
+use Rattle.router.proofs.Kept.{Kept, step-keeps, ticked-keeps}
 use Rattle.output.specs.Output.{bytesOf, needOf}
 use Rattle.output.proofs.Lengths.{frame-length}
 use Rattle.station.specs.declared.station.Station.{Station}
@@ -33,6 +33,7 @@ use Rattle.hearing.specs.Hearing.{countedBy, refusalBy, acceptedOutcome, accept
 use Rattle.steps.specs.Steps.{steppedBy, happenedTo, clockedBy}
 use Rattle.in_tables.specs.Latest.{advertisedPriority}
 use Rattle.in_tables.proofs.ReadBack.{advertisement-first}
+use Rattle.in_tables.proofs.Staying.{same-kept}
 use Rattle.stepped.proofs.Leading.{Leads, step-leads, ticked-leads}
 
 -- the advertisement of a station, less its 14 Ethernet bytes
@@ -43,20 +44,9 @@ ownPacket s = drop 14 (bytesOf Advertisement (s .router) (s .primary) (listOf s)
 abbrev pub Latest : Station → Type 0
 Latest s = s .router .state ≡ Master → ¬ (s .sent ≡ 0) × (packetOf s ≡ ownPacket s)
 
--- a router that is configured as another
-pub record Alike (r after : Router) : Type 0 where
-  pub vrid : after .vrid ≡ r .vrid
-  pub priority : after .priority ≡ r .priority
-  pub interval : after .interval ≡ r .interval
-  pub count : after .count ≡ r .count
-
-alike : (r after : Router) → after .vrid ≡ r .vrid → after .priority ≡ r .priority → after .interval ≡ r .interval
-    → after .count ≡ r .count → Alike r after
-alike r after a b c d = record { vrid = a; priority = b; interval = c; count = d }
-
 -- what is the same of a station and of one that steps have made of it
 pub record Onward (s after : Station) : Type 0 where
-  pub router : Alike (s .router) (after .router)
+  pub router : Kept (s .router) (after .router)
   pub primary-is : after .primary ≡ s .primary
   pub addresses-are : after .addresses ≡ s .addresses
   pub latest : Latest s → Latest after
@@ -68,7 +58,7 @@ list-same {s} {after} o = rw (o .router .count, o .addresses-are)
 pub rests : (s : Station) → Onward s s
 rests s =
     record {
-      router = alike (s .router) (s .router) refl refl refl refl;
+      router = same-kept (s .router) (s .router) refl refl refl refl refl;
       primary-is = refl;
       addresses-are = refl;
       latest = λ h. h;
@@ -80,8 +70,8 @@ joins a b c x y =
     let next = y .router in
     record {
       router =
-          alike (a .router) (c .router) (next .vrid ∙ r .vrid) (next .priority ∙ r .priority)
-          (next .interval ∙ r .interval) (next .count ∙ r .count);
+          same-kept (a .router) (c .router) (next .vrid ∙ r .vrid) (next .priority ∙ r .priority)
+          (next .interval ∙ r .interval) (next .preempt ∙ r .preempt) (next .count ∙ r .count);
       primary-is = y .primary-is ∙ x .primary-is;
       addresses-are = y .addresses-are ∙ x .addresses-are;
       latest = λ h. y .latest (x .latest h);
@@ -94,7 +84,7 @@ either-onward s false a b x y = y
 
 module _ (s : Station) where
   -- nothing is sent
-  silent-onward : (r : Router) → Alike (s .router) r → (r .state ≡ Master → s .router .state ≡ Master)
+  silent-onward : (r : Router) → Kept (s .router) r → (r .state ≡ Master → s .router .state ≡ Master)
       → Onward s (withRouter s r)
   unfolding listOf packetOf
   silent-onward r k was =
@@ -106,7 +96,7 @@ module _ (s : Station) where
       }
 
   -- an advertisement is sent
-  sends-onward : (r : Router) (bytes : List ℕ) → Alike (s .router) r
+  sends-onward : (r : Router) (bytes : List ℕ) → Kept (s .router) r
       → (r .state ≡ Master → bytes ≡ bytesOf Advertisement r (s .primary) (listOf s))
       → Onward s (withFrame (withRouter s r) bytes)
   unfolding listOf packetOf
@@ -123,7 +113,7 @@ module _ (s : Station) where
       }
 
   -- anything is written: its first bytes are an advertisement, and a Master's own
-  writes-onward : (w : Writes) (r : Router) → Alike (s .router) r → ¬ (needOf w (length (listOf s)) ≡ 0)
+  writes-onward : (w : Writes) (r : Router) → Kept (s .router) r → ¬ (needOf w (length (listOf s)) ≡ 0)
       → (r .state ≡ Master → advertisedPriority w (r .priority) ≡ r .priority)
       → Onward s (keptBy s (record { router = r; writes = w }))
   writes-onward w r k some own =
@@ -132,7 +122,7 @@ module _ (s : Station) where
       let frame : ℕ → List ℕ = λ p. frameOf (r .vrid) p (r .interval) (s .primary) list in
       rw (ne-eqb (needOf w (length list)) 0 some) (sends-onward r _ k (λ m. first ∙ ap frame (own m)))
 
-  kept-onward : (w : Writes) (r : Router) → Alike (s .router) r → Leads w (s .router .state) (r .state)
+  kept-onward : (w : Writes) (r : Router) → Kept (s .router) r → Leads w (s .router .state) (r .state)
       → Onward s (keptBy s (record { router = r; writes = w }))
   kept-onward Nothing r k leads = silent-onward r k leads
   kept-onward Advertisement r k leads = writes-onward Advertisement r k (λ z. omega arith) (λ m. refl)
@@ -140,13 +130,13 @@ module _ (s : Station) where
   kept-onward Takeover r k leads = writes-onward Takeover r k (λ z. omega arith) (λ m. refl)
 
   -- an outcome, by whether the room holds what it writes
-  acted-onward : (o : Outcome) (leftover : ℕ) (room : List ℕ) → Alike (s .router) (o .router)
+  acted-onward : (o : Outcome) (leftover : ℕ) (room : List ℕ) → Kept (s .router) (o .router)
       → Leads (o .writes) (s .router .state) (o .router .state) → Onward s (actedBy s o leftover room .station)
   unfolding actedBy
   acted-onward o leftover room k leads =
       either-onward s (ltb (length room) (neededBy s o)) _ _ (rests s) (kept-onward (o .writes) (o .router) k leads)
 
-  stepped-onward : (o : Outcome) (leftover : ℕ) (room : List ℕ) → Alike (s .router) (o .router)
+  stepped-onward : (o : Outcome) (leftover : ℕ) (room : List ℕ) → Kept (s .router) (o .router)
       → Leads (o .writes) (s .router .state) (o .router .state) → Onward s (steppedBy s o leftover room .station)
   stepped-onward o leftover room k leads =
       either-onward s (hasRouter s) _ _ (acted-onward o leftover room k leads) (rests s)
@@ -167,24 +157,22 @@ module _ (s : Station) where
       either-onward s (hasRouter s && eqb (f .vrid) (s .router .vrid)) (acceptedBy s packet f room) _
       (either-onward s (eqb number 0) _ _
       (acted-onward (acceptedOutcome s f) 0 room
-      (alike (s .router) _ (k .vrid) (k .priority) (k .interval) (k .count)) leads)
-      (silent-onward refused (alike (s .router) refused refl refl refl refl) (λ m. m)))
+      (same-kept (s .router) _ (k .vrid) (k .priority) (k .interval) (k .preempt) (k .count)) leads)
+      (silent-onward refused (same-kept (s .router) refused refl refl refl refl refl) (λ m. m)))
       (counted-onward 9)
 
 pub event-onward : (s : Station) (event : Event) (room : List ℕ) → Onward s (happenedTo s event room .station)
 unfolding happenedTo
 event-onward s event room =
-    let k = step-keeps (s .primary) (s .router) event in
-    stepped-onward s (stepOf (s .primary) (s .router) event) 0 room
-    (alike (s .router) _ (k .vrid) (k .priority) (k .interval) (k .count)) (step-leads (s .primary) (s .router) event)
+    stepped-onward s (stepOf (s .primary) (s .router) event) 0 room (step-keeps (s .primary) (s .router) event)
+    (step-leads (s .primary) (s .router) event)
 
 pub clock-onward : (s : Station) (d : ℕ) (room : List ℕ) → Onward s (clockedBy s d room .station)
 unfolding clockedBy
 clock-onward s d room =
     let ticked = tickedOf (s .primary) (s .router) d in
-    let k = ticked-keeps (s .primary) (s .router) d in
-    stepped-onward s (ticked .outcome) (ticked .leftover) room
-    (alike (s .router) _ (k .vrid) (k .priority) (k .interval) (k .count)) (ticked-leads (s .primary) (s .router) d)
+    stepped-onward s (ticked .outcome) (ticked .leftover) room (ticked-keeps (s .primary) (s .router) d)
+    (ticked-leads (s .primary) (s .router) d)
 
 pub packet-onward : (s : Station) (packet room : List ℕ) → Onward s (heardBy s packet room .station)
 unfolding heardBy

@@ -86,7 +86,7 @@ module _ (vrid interval : ℕ) (addresses : List ℕ) (s : Station) (c : Come vr
   formed = subst WellFormed (sym (c .come)) (all-stay before (c .steps) before-formed)
 
   on : (s .router .vrid ≡ vrid) × (s .router .interval ≡ interval) × (listOf s ≡ addresses)
-      × (s .primary ≡ c .primary) × (s .router .priority ≡ c .priority)
+      × (s .primary ≡ c .primary) × (s .router .priority ≡ c .priority) × (s .router .preempt ≡ c .preempt)
   on = (
     onward .router .vrid ∙ ap (λ (x : Station). x .router .vrid) before-fresh,
     onward .router .interval ∙ ap (λ (x : Station). x .router .interval) before-fresh,
@@ -95,6 +95,7 @@ module _ (vrid interval : ℕ) (addresses : List ℕ) (s : Station) (c : Come vr
         ∙ fresh-list vrid (c .priority) interval (c .preempt) (c .primary) addresses (c .taken),
     onward .primary-is ∙ ap (λ (x : Station). x .primary) before-fresh,
     onward .router .priority ∙ ap (λ (x : Station). x .router .priority) before-fresh,
+    onward .router .preempt ∙ ap (λ (x : Station). x .router .preempt) before-fresh,
   )
 
   latest : Latest s

@@ -13,12 +13,12 @@ use Rattle.stepped.specs.Stepped.{tableOf, Come}
 abbrev pub ComeWellFormed : Type 0
 ComeWellFormed = (vrid interval : ℕ) (addresses : List ℕ) (s : Station) → Come vrid interval addresses s → WellFormed s
 
--- what was configured stays: virtual router number, interval and addresses, the primary address and the priority
+-- what was configured stays: virtual router number, interval and addresses, the primary address, the priority, and preempt
 abbrev pub ComeOn : Type 0
 ComeOn =
     (vrid interval : ℕ) (addresses : List ℕ) (s : Station) (c : Come vrid interval addresses s)
     → (s .router .vrid ≡ vrid) × (s .router .interval ≡ interval) × (listOf s ≡ addresses)
-    × (s .primary ≡ c .primary) × (s .router .priority ≡ c .priority)
+    × (s .primary ≡ c .primary) × (s .router .priority ≡ c .priority) × (s .router .preempt ≡ c .preempt)
 
 -- "after any history": its table is one that calls have led to from an empty one
 abbrev pub ComeReached : Type 0

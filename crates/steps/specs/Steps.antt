@@ -12,7 +12,7 @@ use Rattle.station.specs.Station.{Result, refuses, hasRouter, packetOf}
 use Rattle.station.specs.Acting.{actedBy}
 use Rattle.hearing.specs.Hearing.{heardBy}
 
--- what an event comes to: "20 VRID not in the table", as in one with no router, then the outcome
+-- what an event comes to: "20 VRID not in the table" where no router is there, else the outcome
 abbrev pub steppedBy : Station → Outcome → ℕ → List ℕ → Result
 steppedBy s outcome leftover room = cond (hasRouter s) (actedBy s outcome leftover room) (refuses 20 s room)
 

@@ -31,7 +31,7 @@ address-count-requires : tie.Need-address-count-requires
 address-count-requires c κs =
     let at-refusal = c .before .before .before .before .before .before in
     let a = at-refusal .before .before .before .before .before .args in
-    configure-most (now (a .words)) (now (a .lists)) (a .vrid) (a .priority) (a .interval) (a .preempt) (now (a .addresses))
+    configure-most (now (a .words)) (a .vrid) (a .priority) (a .interval) (now (a .addresses))
     (sym (at-refusal .configure-refusal .ensures) ∙ c .before .before .before .before .before .if1 .left)
 
 new-router-requires : tie.Need-new-router-requires
@@ -45,7 +45,7 @@ fill-requires c κs =
     let a = at-refusal .before .before .before .before .before .args in
     let none = sym (at-refusal .configure-refusal .ensures) ∙ at-find .before .before .if1 .left in
     let most =
-    configure-most (now (a .words)) (now (a .lists)) (a .vrid) (a .priority) (a .interval) (a .preempt) (now (a .addresses)) none in
+    configure-most (now (a .words)) (a .vrid) (a .priority) (a .interval) (now (a .addresses)) none in
     let free = found (now (a .words)) 0 _ (sym (at-find .find .ensures) ∙ at-place .place .given .1) in
     omega (arith, free .below)
 
@@ -80,7 +80,7 @@ returns-3 c =
     let at-refusal = at-find .before .before .before in
     let a = at-refusal .before .before .before .before .before .args in
     let none = sym (at-refusal .configure-refusal .ensures) ∙ at-find .before .before .if1 .left in
-    absurd (never-full (now (a .words)) (now (a .lists)) (a .vrid) (a .priority) (a .interval) (a .preempt) (now (a .addresses))
+    absurd (never-full (now (a .words)) (a .vrid) (a .priority) (a .interval) (now (a .addresses))
     none (sym (at-find .find .ensures) ∙ c .enum-told .given .1))
 
 pub set-up-spec : {M : Type 1} → statement M
