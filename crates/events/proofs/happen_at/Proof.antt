@@ -24,7 +24,8 @@ returns c =
     let at-turn = c .before .before .before .before .before .before .before in
     let a = at-turn .before .before .before .before .before .args in
     leaves-equal _ _ _ _ _
-    (turned-step (now (a .words)) (now (a .lists)) (a .place) (a .event) (a .leftover) (now (a .out)) _ (at-turn .turn-at .ensures))
+    (turned-step (now (a .words)) (now (a .lists)) (a .place) (a .event) (a .leftover) (now (a .out)) _
+    (at-turn .turn-at .ensures))
     (c .before .before .before .before .act .ensures)
 
 pub happen-at-spec : {M : Type 1} → statement M
