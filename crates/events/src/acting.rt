@@ -12,7 +12,7 @@ use states::record::Router;
 use states::record::Turn;
 use states::step::applied;
 ghost use mathlib.Core.Path.{_≡_};
-ghost use Prim.Native.Nat.{_≤_, _<_};
+ghost use Prim.Native.Nat.{_<_};
 ghost use lib.ListN.{length};
 ghost use Rattle.places.specs.Place.{recordAt, setEvent};
 ghost use Rattle.events.specs.Result.{Leaves, routerPlace, actedOf};

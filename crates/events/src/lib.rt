@@ -13,44 +13,33 @@ use places::place::is_idle;
 use places::place::load;
 use places::place::store_timer;
 use places::place::timer;
-use states::record::Turn;
 use states::step::Event;
 use states::step::turn;
 ghost use mathlib.Core.Path.{_≡_};
 ghost use Prim.Native.Nat.{_<_};
 ghost use lib.ListN.{length};
 ghost use Rattle.states.specs.Step.{stepOf};
-ghost use Rattle.states.specs.Turn.{turnOf};
 ghost use Rattle.places.specs.declared.place.Found.the-variants.{At};
 ghost use Rattle.places.specs.Place.{primaryOf, recordAt};
 ghost use Rattle.events.specs.Result.{Leaves, actedOf};
 ghost use Rattle.events.specs.Events.{happenedOf, clockedAt, clockedOf, askedOf, Tells};
 
-// What an event changes of the router at a place.
-fn turn_at(words: &[u32], place: usize, event: Event) -> Turn
-    requires { ⌜ (place < 255) × (length (now words) ≡ 4096) ⌝ }
-    ensures { λ t. ⌜ t ≡ turnOf (stepOf (primaryOf (now (words .entry))) (recordAt (now (words .entry)) place) event) ⌝ }
-{
-    turn(load(words, place), primary(words), event)
-}
-
-// An event for the router at a place, with so many ticks left over; refuses by 22.
+// An event for the router at a place; refuses by 22.
 fn happen_at(
     words: &mut [u32],
     lists: &[u8],
     place: usize,
     event: Event,
-    leftover: u32,
     out: &mut [u8],
 ) -> Answered
     requires { ⌜ (place < 255) × (length (now words) ≡ 4096) × (length (now lists) ≡ 16320) ⌝ }
     ensures { λ r. ⌜ Leaves
         (actedOf (now (words .entry)) (now (lists .entry)) place
-        (stepOf (primaryOf (now (words .entry))) (recordAt (now (words .entry)) place) event) leftover (now (out .entry)))
+        (stepOf (primaryOf (now (words .entry))) (recordAt (now (words .entry)) place) event) 0 (now (out .entry)))
         r (now (words .exit)) (now (out .exit)) ⌝ }
 {
-    let changes = turn_at(words, place, event);
-    act(words, lists, place, false, changes, leftover, out)
+    let changes = turn(load(words, place), primary(words), event);
+    act(words, lists, place, false, changes, 0, out)
 }
 
 // Startup or shutdown of a virtual router; refuses by 20 or 22.
@@ -60,7 +49,7 @@ pub fn happen(words: &mut [u32], lists: &[u8], vrid: u8, event: Event, out: &mut
         r (now (words .exit)) (now (out .exit)) ⌝ }
 {
     match seek(words, vrid) {
-        Found::At(place) => happen_at(words, lists, place, event, 0, out),
+        Found::At(place) => happen_at(words, lists, place, event, out),
         Found::Nothing => Answered::Refused(20),
     }
 }
@@ -81,7 +70,8 @@ fn tick_at(words: &mut [u32], lists: &[u8], place: usize, ticks: u32, out: &mut 
         store_timer(words, place, remaining - ticks);
         return Answered::Done(0, 0);
     }
-    happen_at(words, lists, place, Event::Timer, ticks - remaining, out)
+    let changes = turn(load(words, place), primary(words), Event::Timer);
+    act(words, lists, place, false, changes, ticks - remaining, out)
 }
 
 // A clock step of a virtual router; refuses by 20 or 22.

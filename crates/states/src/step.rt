@@ -160,10 +160,7 @@ fn take_over(r: Router) -> Turn
 fn hear_as_backup(r: Router, theirs: u8) -> Turn
     ensures { λ t. ⌜ t ≡ turnOf (heardByBackup r theirs) ⌝ }
 {
-    if !r.preempt {
-        return wait(r);
-    }
-    if r.priority <= theirs {
+    if !r.preempt | (r.priority <= theirs) {
         return wait(r);
     }
     no_change(r)
@@ -173,13 +170,7 @@ fn hear_as_backup(r: Router, theirs: u8) -> Turn
 fn hear_as_master(r: Router, primary: u32, theirs: u8, source: u32) -> Turn
     ensures { λ t. ⌜ t ≡ turnOf (heardByMaster primary r theirs source) ⌝ }
 {
-    if r.priority < theirs {
-        return wait(r);
-    }
-    if theirs != r.priority {
-        return no_change(r);
-    }
-    if primary < source {
+    if (r.priority < theirs) | ((theirs == r.priority) & (primary < source)) {
         return wait(r);
     }
     no_change(r)

@@ -1,8 +1,7 @@
--- `states::step::hear_as_backup` meets its contract: the two conditions in turn.
+-- `states::step::hear_as_backup` meets its contract.
 -- Assumes nothing.
 use mathlib.Core.Path.{_∙_}
 use borrow.Author.Needs.{needs}
-use borrow.Author.Tests.{le-leb, lt-leb}
 use Rattle.states.proofs.step.hear_as_backup.Statement.{statement}
 use Rattle.states.proofs.step.hear_as_backup.Tie as tie
 
@@ -12,20 +11,11 @@ wait-requires c κs = search needs
 returns : tie.Need-returns
 returns c = c .wait .ensures ∙ simp (c .before .if1 .taken)
 
-wait-requires-2 : tie.Need-wait-requires-2
-wait-requires-2 c κs = search needs
-
-returns-2 : tie.Need-returns-2
-returns-2 c =
-    c .wait2 .ensures ∙ simp (c .before .before .before .if1 .left, le-leb _ _ (c .before .if2 .taken))
-
 no-change-requires : tie.Need-no-change-requires
 no-change-requires c κs = search needs
 
-returns-3 : tie.Need-returns-3
-returns-3 c =
-    c .no-change .ensures ∙ simp (c .before .before .before .if1 .left, lt-leb _ _ (c .before .if2 .left))
+returns-2 : tie.Need-returns-2
+returns-2 c = c .no-change .ensures ∙ simp (c .before .if1 .left)
 
 pub hear-as-backup-spec : {M : Type 1} → statement M
-hear-as-backup-spec =
-    tie.close (tie.spec wait-requires returns wait-requires-2 returns-2 no-change-requires returns-3)
+hear-as-backup-spec = tie.close (tie.spec wait-requires returns no-change-requires returns-2)
