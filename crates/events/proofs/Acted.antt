@@ -60,7 +60,8 @@ loaded-most words p r e =
     omega (arith, read-in-range words p .count)
 
 -- what an event changes leaves the router configured as it was
-pub turned-count : (heard : Bool) (words : List ℕ) (p : ℕ) (t : Turn) → turnedAt words p heard t .router .count ≡ recordAt words p .count
+pub turned-count : (heard : Bool) (words : List ℕ) (p : ℕ) (t : Turn)
+    → turnedAt words p heard t .router .count ≡ recordAt words p .count
 turned-count true words p t = refl
 turned-count false words p t = refl
 

@@ -42,7 +42,8 @@ pub leaves-equal : (a b : Result) (answer : Answered) (words room : List ℕ) �
 leaves-equal a b answer words room e h = subst (λ (x : Result). Leaves x answer words room) e h
 
 -- a refusal that leaves everything as it was
-pub leaves-refused : (number : ℕ) (words room : List ℕ) → ¬ (number ≡ 0) → ¬ (number ≡ 22) → Leaves (refuses number words room) (Refused number) words room
+pub leaves-refused : (number : ℕ) (words room : List ℕ) → ¬ (number ≡ 0) → ¬ (number ≡ 22)
+    → Leaves (refuses number words room) (Refused number) words room
 leaves-refused number words room some other =
     record { answer-is = refl; proper = (some, other); words-are = refl; room-is = refl }
 

@@ -91,7 +91,8 @@ module _ (number : ℕ) (least : 1 ≤ number) (most : number ≤ 9) where
       acted-same-test (ltb (length room) (needOf (o .writes) (4 * o .router .count))) _ _ words refl
       (beside-count p words _ (event-beside words p (o .router)) number most)
 
-  acted-adds : (words lists : List ℕ) (p : ℕ) (o : Outcome) (leftover : ℕ) (room : List ℕ) → of words < 2 ^ 32 → Adds words (actedOf words lists p o leftover room)
+  acted-adds : (words lists : List ℕ) (p : ℕ) (o : Outcome) (leftover : ℕ) (room : List ℕ) → of words < 2 ^ 32
+      → Adds words (actedOf words lists p o leftover room)
   unfolding actedOf
   acted-adds words lists p o leftover room small =
       either-adds (ltb (length room) (needOf (o .writes) (4 * o .router .count))) _ _ words

@@ -49,7 +49,8 @@ pub data Does (words lists : List ℕ) (gone : ℕ) : List ℕ → List ℕ → 
       → configureRefusal words v priority interval addresses ≡ 0 → placeOf words 0 ≡ At p
       → Does words lists gone (setRecord words p (newRouter v priority interval preempt (length addresses / 4)))
       (setList lists p addresses)
-  frees : (p : ℕ) → removeRefusal words gone ≡ 0 → routerPlace words gone ≡ At p → Does words lists gone (setRecord words p freed) lists
+  frees : (p : ℕ) → removeRefusal words gone ≡ 0 → routerPlace words gone ≡ At p
+      → Does words lists gone (setRecord words p freed) lists
 
 module _ (words lists : List ℕ) (long : length words ≡ 4096) where
   either : (t : Bool) (a b : Result) → Moves words (a .words) → Moves words (b .words) → Moves words (cond t a b .words)

@@ -37,7 +37,7 @@ use Rattle.events.proofs.Ticking.{clocked-falls}
 use Rattle.configuring.specs.Configuring.{placeIn}
 use Rattle.packets.specs.Packets.{acceptedAt}
 use Rattle.histories.specs.Rows.{packetOutcome}
-use Rattle.histories.specs.Kept.{OnlyThese, wordsOf, OneCount, packetPlace}
+use Rattle.histories.specs.Kept.{OnlyThese, wordsAt, OneCount, packetPlace}
 use Rattle.histories.specs.Theorems.{EventChanges, ClockChanges, TimerFalls, PacketChanges, PacketCounts}
 use Rattle.histories.specs.Counts.{becomes}
 use Rattle.histories.proofs.Became.{Bumped, step-bumped, ticked-bumped}
@@ -102,7 +102,7 @@ state-word words p s e =
 
 -- an event that is no accepted packet
 event-only : (words : List ℕ) (p : ℕ) (r : Router) → r .counts .accepted ≡ recordAt words p .counts .accepted
-    → OnlyThese words (setEvent words p r) (wordsOf p (4 ∷ (5 ∷ (8 ∷ []))))
+    → OnlyThese words (setEvent words p r) (wordsAt p (4 ∷ (5 ∷ (8 ∷ []))))
 event-only words p r e =
     record {
       long = event-beside words p r .long;
@@ -122,7 +122,7 @@ same-only words these = record { long = refl; others = λ i n. refl }
 
 acted-changes : (words lists : List ℕ) (p : ℕ) (o : Outcome) (leftover : ℕ) (room : List ℕ)
     → o .router .counts .accepted ≡ recordAt words p .counts .accepted
-    → OnlyThese words (actedOf words lists p o leftover room .words) (wordsOf p (4 ∷ (5 ∷ (8 ∷ []))))
+    → OnlyThese words (actedOf words lists p o leftover room .words) (wordsAt p (4 ∷ (5 ∷ (8 ∷ []))))
 unfolding actedOf
 acted-changes words lists p o leftover room e =
     acted-only (ltb (length room) (needOf (o .writes) (4 * o .router .count))) words _ _ _ (same-only words _)
@@ -138,7 +138,7 @@ bumped-accepted r after e =
     ap (λ (c : Counts). c .accepted) e ∙ bump-accepted (becomes (r .state) (after .state)) (r .counts)
 
 happened-changes : (f : Found) (words lists : List ℕ) (e : Event) (room : List ℕ)
-    → OnlyThese words (happenedAt f words lists e room .words) (wordsOf (placeIn f) (4 ∷ (5 ∷ (8 ∷ []))))
+    → OnlyThese words (happenedAt f words lists e room .words) (wordsAt (placeIn f) (4 ∷ (5 ∷ (8 ∷ []))))
 happened-changes Nothing words lists e room = same-only words _
 happened-changes (At p) words lists e room =
     let r = recordAt words p in
@@ -150,7 +150,7 @@ unfolding happenedOf
 event-changes words lists v e room = happened-changes (routerPlace words v) words lists e room
 
 clocked-changes : (f : Found) (words lists : List ℕ) (d : ℕ) (room : List ℕ)
-    → OnlyThese words (clockedAt f words lists d room .words) (wordsOf (placeIn f) (4 ∷ (5 ∷ (8 ∷ []))))
+    → OnlyThese words (clockedAt f words lists d room .words) (wordsAt (placeIn f) (4 ∷ (5 ∷ (8 ∷ []))))
 clocked-changes Nothing words lists d room = same-only words _
 clocked-changes (At p) words lists d room =
     let r = recordAt words p in
@@ -218,7 +218,7 @@ module _ (words : List ℕ) (p : ℕ) (f : Fields) (below : p < 255) (long : len
   unfolding stepOf
   became-stays = packet-became (own .state) (f .priority) (f .source) (primaryOf words) own ∙ became-word words p
 
-  packet-only : OnlyThese words after (wordsOf p (4 ∷ (5 ∷ (7 ∷ []))))
+  packet-only : OnlyThese words after (wordsAt p (4 ∷ (5 ∷ (7 ∷ []))))
   packet-only =
       record {
         long = event-beside words p s .long;

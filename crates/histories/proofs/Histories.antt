@@ -57,7 +57,8 @@ either-held : (t : Bool) (a b : Result) → Held (a .words) → Held (b .words) 
 either-held true a b h k = h
 either-held false a b h k = k
 
-acted-held : (words lists : List ℕ) → Held words → (p : ℕ) → p < 255 → ¬ (getD words (baseOf p) 0 ≡ 0) → (o : Outcome) (leftover : ℕ)
+acted-held : (words lists : List ℕ) → Held words → (p : ℕ) → p < 255 → ¬ (getD words (baseOf p) 0 ≡ 0)
+    → (o : Outcome) (leftover : ℕ)
     (room : List ℕ) → Unchanged (recordAt words p) (o .router) → Timed (o .router)
     → Held (actedOf words lists p o leftover room .words)
 unfolding actedOf

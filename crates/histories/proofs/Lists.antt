@@ -64,8 +64,8 @@ either-bytes false a b h k = k
 call-bytes : (m : Memory) (call : Call) → Given call → Bytes (m .lists) → Bytes (called m call .lists)
 call-bytes m (configure v priority interval preempt addresses) g h =
     let place = placeIn (placeOf (m .words) 0) in
-    either-bytes (eqb (configureRefusal (m .words) v priority interval addresses) 0) (setList (m .lists) place addresses) (m .lists)
-    (set-bytes (m .lists) place addresses h (g .3)) h
+    either-bytes (eqb (configureRefusal (m .words) v priority interval addresses) 0) (setList (m .lists) place addresses)
+    (m .lists) (set-bytes (m .lists) place addresses h (g .3)) h
 call-bytes m (remove v) g h = h
 call-bytes m (startup v room) g h = h
 call-bytes m (shutdown v room) g h = h

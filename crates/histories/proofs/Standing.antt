@@ -25,8 +25,8 @@ use Rattle.events.specs.Result.{routerPlace}
 use Rattle.events.proofs.Sought.{sought-word}
 use Rattle.configuring.specs.Configuring.{newRouter, configureChecks, configureRefusal, removeRefusal}
 use Rattle.configuring.proofs.Configures.{configure-most, never-full}
-use Rattle.histories.specs.Histories.{Call, configure, remove, startup, shutdown, clock, packet, Given, Memory, called, after}
-use Rattle.histories.specs.Histories.{begun, GivenAll}
+use Rattle.histories.specs.Histories.{Call, configure, remove, startup, shutdown, clock, packet, Given, Memory, called}
+use Rattle.histories.specs.Histories.{after, begun, GivenAll}
 use Rattle.histories.specs.Standing.{Standing, removes, NotRemoved}
 use Rattle.histories.specs.Theorems.{ConfiguredStays}
 use Rattle.histories.proofs.Begun.{empty-held}
@@ -66,7 +66,8 @@ module _ (m : Memory) (held : Held (m .words)) (v p : ℕ) (at : routerPlace (m 
   by call other = still (m .words) (m .lists) held v p at (goneBy call) _ _ other (call-does m call (held .long))
 
   -- a remove that is for it is refused
-  remove-test : (s t : Bool) (u : ℕ) → eqb u v ≡ s → eqb (removeRefusal (m .words) u) 0 ≡ t → (s && t) ≡ false → StillBy (remove u)
+  remove-test : (s t : Bool) (u : ℕ) → eqb u v ≡ s → eqb (removeRefusal (m .words) u) 0 ≡ t → (s && t) ≡ false
+      → StillBy (remove u)
   remove-test false t u e f n = by (remove u) (eqb-false u v e)
   remove-test true true u e f n = absurd (let z : _≡_ {A = ℕ} 0 1 = cc in omega arith)
   remove-test true false u e f n =
@@ -164,7 +165,8 @@ module _ (m : Memory) (held : Held (m .words)) (v priority interval : ℕ) (pree
             (record { vrid = given .0; priority = given .1; interval = given .2; count = omega arith }),
       )
 
-  begins-at : (f : Found) → length (m .lists) ≡ 16320 → placeOf (m .words) 0 ≡ f → Standing then v priority interval preempt addresses
+  begins-at : (f : Found) → length (m .lists) ≡ 16320 → placeOf (m .words) 0 ≡ f
+      → Standing then v priority interval preempt addresses
   unfolding configureRefusal
   begins-at Nothing long s = absurd (never-full (m .words) v priority interval addresses none s)
   begins-at (At p) long s =

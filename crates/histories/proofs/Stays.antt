@@ -35,11 +35,13 @@ use Rattle.histories.proofs.Histories.{call-held}
 use Rattle.histories.proofs.Theorems.{list-other}
 
 -- no call changes the primary address
-stored-primary : (words : List ℕ) (p : ℕ) (r : Router) → p < 255 → length words ≡ 4096 → primaryOf (setRecord words p r) ≡ primaryOf words
+stored-primary : (words : List ℕ) (p : ℕ) (r : Router) → p < 255 → length words ≡ 4096
+    → primaryOf (setRecord words p r) ≡ primaryOf words
 unfolding primaryOf refusalCount
 stored-primary words p r below long = store-count words p r below long 0 (omega arith)
 
-does-primary : (words lists : List ℕ) (gone : ℕ) (w l : List ℕ) → length words ≡ 4096 → Does words lists gone w l → primaryOf w ≡ primaryOf words
+does-primary : (words lists : List ℕ) (gone : ℕ) (w l : List ℕ) → length words ≡ 4096 → Does words lists gone w l
+    → primaryOf w ≡ primaryOf words
 unfolding primaryOf refusalCount
 does-primary words lists gone w l long (moves after same) = refl
 does-primary words lists gone w l long (moves after (counts n least most)) = count-other words n most 0 (λ z. omega arith)
@@ -66,7 +68,8 @@ unfolding setList
 set-long lists p addresses below most long =
     length-paste lists (64 * p) addresses (length addresses) (omega arith) (omega arith) ∙ long
 
-pub does-long : (words lists : List ℕ) (gone : ℕ) (w l : List ℕ) → length lists ≡ 16320 → Does words lists gone w l → length l ≡ 16320
+pub does-long : (words lists : List ℕ) (gone : ℕ) (w l : List ℕ) → length lists ≡ 16320 → Does words lists gone w l
+    → length l ≡ 16320
 does-long words lists gone w l long (moves after moved) = long
 does-long words lists gone w l long (configures v priority interval preempt addresses p e s) =
     let most = configure-most words v priority interval addresses e in
@@ -113,7 +116,8 @@ module _ (words lists : List ℕ) (held : Held words) (v p : ℕ) (at : routerPl
   word = sought-word words v p at
 
   -- "18 VRID already in the table"
-  pub new-number : (u priority interval : ℕ) (addresses : List ℕ) → configureRefusal words u priority interval addresses ≡ 0 → u ≡ v → ⊥
+  pub new-number : (u priority interval : ℕ) (addresses : List ℕ)
+      → configureRefusal words u priority interval addresses ≡ 0 → u ≡ v → ⊥
   unfolding configureRefusal
   new-number u priority interval addresses e z =
       let checks = passed (configureChecks words u priority interval addresses) (omega arith) e in
@@ -128,7 +132,8 @@ module _ (words lists : List ℕ) (held : Held words) (v p : ℕ) (at : routerPl
   same-kept : (w : List ℕ) → recordAt w p ≡ recordAt words p → Kept (recordAt words p) (recordAt w p)
   same-kept w e = subst (λ (r : Router). Kept (recordAt words p) r) (sym e) (as-it-was (recordAt words p))
 
-  changed-kept : (q : ℕ) (w : List ℕ) (r : Router) → Changed q words w r → (p ≡ q) ⊎ (p ≡ q → ⊥) → Kept (recordAt words p) (recordAt w p)
+  changed-kept : (q : ℕ) (w : List ℕ) (r : Router) → Changed q words w r → (p ≡ q) ⊎ (p ≡ q → ⊥)
+      → Kept (recordAt words p) (recordAt w p)
   changed-kept q w r c (inl e) =
       subst (λ (k : ℕ). Kept (recordAt words k) (recordAt w k)) (sym e)
       (subst (λ (x : Router). Kept (recordAt words q) x) (sym (c .here)) (c .kept))
@@ -136,7 +141,8 @@ module _ (words lists : List ℕ) (held : Held words) (v p : ℕ) (at : routerPl
 
   -- storing a record for another virtual router, or for none, at another place
   stored-still : (q u : ℕ) (r : Router) (l : List ℕ) → q < 255 → getD words (baseOf q) 0 ≡ u → ¬ (u ≡ v) → ¬ (r .vrid ≡ v)
-      → (length lists ≡ 16320 → (n : ℕ) → n ≤ 16 → listAt l p n ≡ listAt lists p n) → Still words lists (setRecord words q r) l v p
+      → (length lists ≡ 16320 → (n : ℕ) → n ≤ 16 → listAt l p n ≡ listAt lists p n)
+      → Still words lists (setRecord words q r) l v p
   stored-still q u r l below e n new list =
       let old : ¬ (getD words (baseOf q) 0 ≡ v) = λ z. n (sym e ∙ z) in
       record {

@@ -261,7 +261,8 @@ module _ (p : ℕ) (below : p < 255) where
       (Bumps (hears p m call 0) (becomesMaster p m call) (hears p m call 10) (hears p m call 11) (hears p m call 12)
       (hears p m call 13) c)
 
-  pub call-follows : (m : Memory) (call : Call) → Given call → length (m .words) ≡ 4096 → Follows m call (recordAt (m .words) p .counts)
+  pub call-follows : (m : Memory) (call : Call) → Given call → length (m .words) ≡ 4096
+      → Follows m call (recordAt (m .words) p .counts)
   unfolding happenedOf clockedOf heardOf
   call-follows m (configure v priority interval preempt addresses) g long =
       let w = m .words in

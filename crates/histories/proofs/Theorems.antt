@@ -39,8 +39,9 @@ use Rattle.configuring.specs.Configuring.{placeIn, newRouter, freed, configureR
 use Rattle.events.specs.Events.{happenedAt, happenedOf, clockedAt, clockedOf, Status, statusOf, ProperTold}
 use Rattle.packets.specs.Packets.{refusalAt, acceptedAt, soughtAt, judgedAt, heardOf}
 use Rattle.packets.proofs.Heard.{refused-range}
-use Rattle.histories.specs.Theorems.{OneResult, OneStatus, OneConfiguring, OneRemoving, EventElsewhere, ClockElsewhere, PacketElsewhere}
-use Rattle.histories.specs.Theorems.{ConfigureElsewhere, ListElsewhere, RemoveElsewhere, LowestFreePlace, NoFreePlace}
+use Rattle.histories.specs.Theorems.{OneResult, OneStatus, OneConfiguring, OneRemoving, EventElsewhere, ClockElsewhere}
+use Rattle.histories.specs.Theorems.{PacketElsewhere, ConfigureElsewhere, ListElsewhere, RemoveElsewhere}
+use Rattle.histories.specs.Theorems.{LowestFreePlace, NoFreePlace}
 use Rattle.configuring.proofs.Configures.{configure-most, never-full, never-unknown}
 use Rattle.events.proofs.Sought.{sought-below}
 

@@ -28,8 +28,8 @@ use Rattle.events.proofs.Sought.{sought-below, sought-word}
 use Rattle.configuring.specs.Configuring.{noCounts, emptyOf, freed, configureRefusal, removeRefusal}
 use Rattle.configuring.proofs.Configures.{never-full, never-unknown}
 use Rattle.packets.specs.Packets.{heardOf}
-use Rattle.histories.specs.Histories.{Call, configure, remove, startup, shutdown, clock, packet, Given, Memory, called, after}
-use Rattle.histories.specs.Histories.{begun, GivenAll}
+use Rattle.histories.specs.Histories.{Call, configure, remove, startup, shutdown, clock, packet, Given, Memory, called}
+use Rattle.histories.specs.Histories.{after, begun, GivenAll}
 use Rattle.histories.specs.Counts.{isAt, addressee, hears, becomesMaster, begins, isFor, hearsBy, becomesMasterBy}
 use Rattle.histories.specs.Counts.{beginsBy, talliedBy, tallyBy, modulo}
 use Rattle.histories.specs.Standing.{removes}
@@ -62,7 +62,10 @@ module _ (words : List ℕ) (v p : ℕ) (at : routerPlace words v ≡ At p) wher
       ne-eqb q p (λ z. n (sym (sought-word words u q s .1) ∙ ap (λ (k : ℕ). getD words (baseOf k) 0) z ∙ number))
 
   for-test : (t : Bool) (u : ℕ) → eqb u v ≡ t → isAt (routerPlace words u) p ≡ t
-  for-test true u e = ap (λ (k : ℕ). isAt (routerPlace words k) p) (eqb-true u v e) ∙ ap (λ (f : Found). isAt f p) at ∙ eq-eqb p p refl
+  for-test true u e =
+      ap (λ (k : ℕ). isAt (routerPlace words k) p) (eqb-true u v e)
+      ∙ ap (λ (f : Found). isAt f p) at
+      ∙ eq-eqb p p refl
   for-test false u e = place-test (routerPlace words u) u refl (eqb-false u v e)
 
   -- a packet is for the router at the place exactly where it carries its number
@@ -285,7 +288,8 @@ module _ (v : ℕ) where
     event-told call e begins = nowhere-told call begins (moved-nowhere (called m call .words) (event-moves m call e (held .long)))
 
     -- configuring: it, another one, or none
-    fresh-told : (u priority interval : ℕ) (preempt : Bool) (addresses : List ℕ) → Given (configure u priority interval preempt addresses)
+    fresh-told : (u priority interval : ℕ) (preempt : Bool) (addresses : List ℕ)
+        → Given (configure u priority interval preempt addresses)
         → u ≡ v → configureRefusal (m .words) u priority interval addresses ≡ 0 → (f : Found) → placeOf (m .words) 0 ≡ f
         → told (called m (configure u priority interval preempt addresses) .words) ≡ noCounts
     fresh-told u priority interval preempt addresses g z none Nothing s =
@@ -326,7 +330,8 @@ module _ (v : ℕ) where
     apart : {q : ℕ} → At q ≡ Nothing → ⊥
     apart e = let z : _≡_ {A = ℕ} 0 1 = cc in omega arith
 
-    gone : (q u : ℕ) → routerPlace (m .words) u ≡ At q → eqb (removeRefusal (m .words) u) 0 ≡ true → ¬ (u ≡ v) → (z : Bool) → eqb v 0 ≡ z
+    gone : (q u : ℕ) → routerPlace (m .words) u ≡ At q → eqb (removeRefusal (m .words) u) 0 ≡ true → ¬ (u ≡ v)
+        → (z : Bool) → eqb v 0 ≡ z
         → routerPlace (called m (remove u) .words) v ≡ Nothing
     gone q u s e other true c = no-zero _ c
     gone q u s e other false c =
@@ -354,7 +359,8 @@ module _ (v : ℕ) where
     there-told (clock u d room) g = event-told (clock u d room) tt refl
     there-told (packet bytes room) g = event-told (packet bytes room) tt refl
 
-  call-test : (f : Found) (m : Memory) → Held (m .words) → routerPlace (m .words) v ≡ f → (call : Call) → Given call → FollowsBy m call
+  call-test : (f : Found) (m : Memory) → Held (m .words) → routerPlace (m .words) v ≡ f → (call : Call) → Given call
+      → FollowsBy m call
   call-test (At p) m held s call g = here-test m held p s (removes v m call) call g refl
   call-test Nothing m held s call g = there-told m held s call g
 
@@ -372,7 +378,8 @@ module _ (v : ℕ) where
       (hearsBy v m call 12) (hearsBy v m call 13) n)
 
 -- of an empty table a question tells no counts
-empty-told : (f : Found) (primary v : ℕ) → routerPlace (emptyOf primary) v ≡ f → askedOf (emptyOf primary) v .router .counts ≡ noCounts
+empty-told : (f : Found) (primary v : ℕ) → routerPlace (emptyOf primary) v ≡ f
+    → askedOf (emptyOf primary) v .router .counts ≡ noCounts
 empty-told Nothing primary v s = ap (λ (r : Router). r .counts) (asked-nowhere (emptyOf primary) v s)
 empty-told (At p) primary v s =
     ap (λ (r : Router). r .counts)

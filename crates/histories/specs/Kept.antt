@@ -17,8 +17,8 @@ pub record OnlyThese (words after these : List ℕ) : Type 0 where
   pub others : (i : ℕ) → ¬ OneOf these i → getD after i 0 ≡ getD words i 0
 
 -- words of a place, by their numbers within it
-abbrev pub wordsOf : ℕ → List ℕ → List ℕ
-wordsOf place numbers = map (λ (k : ℕ). baseOf place + k) numbers
+abbrev pub wordsAt : ℕ → List ℕ → List ℕ
+wordsAt place numbers = map (λ (k : ℕ). baseOf place + k) numbers
 
 -- "add one to that .. count": as many words, one of them one more, and every other as it was
 pub record OneCount (words after : List ℕ) (at : ℕ) : Type 0 where

@@ -30,7 +30,7 @@ use Rattle.histories.specs.Standing.{Standing, NotRemoved}
 use Rattle.histories.specs.Counts.{tallyOf, tallyBy, modulo}
 use Rattle.histories.specs.Rows.{recordFor, needs, eventOutcome, eventChecks, clockTicked, clockChecks, questionChecks}
 use Rattle.histories.specs.Rows.{placeFor, packetOutcome, packetChecks, answerBy, statusBy, OneOf}
-use Rattle.histories.specs.Kept.{OnlyThese, wordsOf, OneCount, packetPlace, countedWord, Keeps}
+use Rattle.histories.specs.Kept.{OnlyThese, wordsAt, OneCount, packetPlace, countedWord, Keeps}
 
 -- two outcomes that the promise of a call allows are equal: startup, shutdown, clock and packet
 abbrev pub OneResult : Type 0
@@ -331,13 +331,13 @@ RefusedRemove = (words : List ℕ) (vrid : ℕ) → ¬ (removeRefusal words vrid
 abbrev pub EventChanges : Type 0
 EventChanges =
     (words lists : List ℕ) (vrid : ℕ) (event : Event) (room : List ℕ)
-    → OnlyThese words (happenedOf words lists vrid event room .words) (wordsOf (placeFor words vrid) (4 ∷ (5 ∷ (8 ∷ []))))
+    → OnlyThese words (happenedOf words lists vrid event room .words) (wordsAt (placeFor words vrid) (4 ∷ (5 ∷ (8 ∷ []))))
 
 -- and a clock step
 abbrev pub ClockChanges : Type 0
 ClockChanges =
     (words lists : List ℕ) (vrid ticks : ℕ) (room : List ℕ)
-    → OnlyThese words (clockedOf words lists vrid ticks room .words) (wordsOf (placeFor words vrid) (4 ∷ (5 ∷ (8 ∷ []))))
+    → OnlyThese words (clockedOf words lists vrid ticks room .words) (wordsAt (placeFor words vrid) (4 ∷ (5 ∷ (8 ∷ []))))
 
 -- "if d is below the remaining time, that falls by d": the timer's word alone
 abbrev pub TimerFalls : Type 0
@@ -351,7 +351,7 @@ abbrev pub PacketChanges : Type 0
 PacketChanges =
     (words lists bytes room : List ℕ) (place : ℕ) → length words ≡ 4096 → packetPlace words bytes ≡ place
     → heardOf words lists bytes room .answer .number ≡ 0
-    → OnlyThese words (heardOf words lists bytes room .words) (wordsOf place (4 ∷ (5 ∷ (7 ∷ []))))
+    → OnlyThese words (heardOf words lists bytes room .words) (wordsAt place (4 ∷ (5 ∷ (7 ∷ []))))
     × (getD (heardOf words lists bytes room .words) (baseOf place + 7) 0 ≡ counted (getD words (baseOf place + 7) 0))
 
 -- that count alone, where the router's state and timer are as they were

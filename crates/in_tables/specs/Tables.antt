@@ -24,8 +24,8 @@ listsOf s = s .addresses ++ replicate 16256 0
 abbrev pub inTable : Result → TableResult
 inTable r = record { answer = answerOf (r .answer); words = wordsOf (r .station); room = r .room }
 
--- "virtual router number (VRID) 1 to 255 ..; priority ..; interval A ..; 1 to 16 virtual addresses", and 0 where there
--- is no router
+-- a station whose table holds it: its bytes are bytes ("VRID, priority and interval come as bytes"), it has at most 16
+-- virtual addresses in 64 bytes, and 9 counts of refusals. Where its VRID is 0 it has no router
 pub record WellFormed (s : Station) : Type 0 where
   pub vrid : s .router .vrid < 256
   pub priority : s .router .priority < 256

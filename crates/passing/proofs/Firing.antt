@@ -4,7 +4,7 @@
 --     passed-due      what passes where it does: all fires of the router, and its own advertisement
 -- Assumes nothing.
 use mathlib.Core.Path.{_≡_, refl, sym, ap, _∙_}
-use mathlib.Core.Bool.{Bool, true, false, cond}
+use mathlib.Core.Bool.{Bool, true, false, cond, not, _&&_}
 use mathlib.Core.List.{List, _++_}
 use mathlib.Core.Logic.{dite}
 use Prim.Native.Nat.{ℕ, zero, suc, _+_, _-_, _*_, _%_, _≤_, _<_}
@@ -37,7 +37,7 @@ use Rattle.station.specs.Station.{listOf, withRouter, withFrame}
 use Rattle.station.specs.Acting.{writtenBy, neededBy, keptBy, actedBy}
 use Rattle.steps.specs.Steps.{clockedBy}
 use Rattle.passing.specs.Passing.{roomBytes, freshRoom, passedIn, passed}
-use Rattle.passing.specs.Elapsed.{dueIn, firesIn, countsIn, firedOf, elapsedOf}
+use Rattle.passing.specs.Elapsed.{dueIn, countsIn, firedOf, elapsedOf}
 use Rattle.station.proofs.Arrays.{list-length}
 
 pub rest-below : (n m : ℕ) → ¬ (m ≡ 0) → n % m ≤ m
@@ -144,6 +144,10 @@ module _ (primary : ℕ) (r : Router) where
   ticks-none Initialize d e = refl
   ticks-none Backup d e = absurd (omega arith)
   ticks-none Master d e = absurd (omega arith)
+
+-- whether a station's timer fires within so many ticks: it may have no router
+abbrev pub firesIn : Router → ℕ → Bool
+firesIn r ticks = not (eqb (r .vrid) 0) && dueIn r ticks
 
 -- nothing passes where there is no router
 none-passed : (s : Station) (times d : ℕ) → s .router .vrid ≡ 0 → passedIn (suc times) s d ≡ s

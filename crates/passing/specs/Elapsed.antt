@@ -13,10 +13,6 @@ use Rattle.states.specs.Step.{stateNumber, withState, withCounts, becameMaster}
 unfoldable pub dueIn : Router → ℕ → Bool
 dueIn r ticks = not (eqb (stateNumber (r .state)) 0) && leb (r .timer) ticks
 
--- and whether a station's does, which may have no router
-abbrev pub firesIn : Router → ℕ → Bool
-firesIn r ticks = not (eqb (r .vrid) 0) && dueIn r ticks
-
 -- the counts after a fire: a Backup became Master
 abbrev pub countsIn : State → Counts → Counts
 countsIn Initialize counts = counts

@@ -77,7 +77,8 @@ fn elapsed(own: Router, ticks: u32) -> Router
     after
 }
 
-// Lets so many ticks pass. However often it fires, the frame is its own advertisement, written once.
+// Lets so many ticks pass; where no router is there, all stays. However often it fires, the frame is its own advertisement,
+// written once.
 pub fn pass(s: Station, ticks: u32) -> Station
     ensures { λ r. ⌜ r ≡ passed s ticks ⌝ }
 {

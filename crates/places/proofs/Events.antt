@@ -22,7 +22,10 @@ use Rattle.places.proofs.Records.{state-back}
 -- the state that a word stands for afterwards
 state-test : (t : Bool) (word : ℕ) (s : State) → eqb (stateNumber (stateOf word)) (stateNumber s) ≡ t
     → stateOf (cond t word (stateNumber s)) ≡ s
-state-test true word s e = sym (state-back (stateOf word)) ∙ ap stateOf (eqb-true (stateNumber (stateOf word)) (stateNumber s) e) ∙ state-back s
+state-test true word s e =
+    sym (state-back (stateOf word))
+    ∙ ap stateOf (eqb-true (stateNumber (stateOf word)) (stateNumber s) e)
+    ∙ state-back s
 state-test false word s e = state-back s
 
 pub state-stored : (word : ℕ) (s : State) → stateOf (stateWord word s) ≡ s
@@ -120,7 +123,8 @@ module _ (words : List ℕ) (p : ℕ) (r : Router) where
               };
         }
       where
-        read : (k : ℕ) → k < 16 → getD (take 16 (drop (baseOf p) (setEvent words p r))) k 0 ≡ getD (setEvent words p r) (baseOf p + k) 0
+        read : (k : ℕ) → k < 16
+            → getD (take 16 (drop (baseOf p) (setEvent words p r))) k 0 ≡ getD (setEvent words p r) (baseOf p + k) 0
         read k h = part-word (setEvent words p r) p k h
 
         same : (k : ℕ) → (k < 16) × (k ≡ 4 → ⊥) × (k ≡ 5 → ⊥) × (k ≡ 7 → ⊥) × (k ≡ 8 → ⊥)

@@ -14,7 +14,7 @@ fn flag(b: bool) -> u32
     if b { 1 } else { 0 }
 }
 
-// The state that a word stands for: past 1 every one is Master.
+// The state that a word stands for: 0 is Initialize, 1 Backup, and every other Master.
 pub fn state_of(word: u32) -> State
     ensures { λ r. ⌜ r ≡ stateOf word ⌝ }
 {

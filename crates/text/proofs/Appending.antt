@@ -73,8 +73,3 @@ then {before} {x} {middle} {y} {after} {at} {next} {last} first second =
 pub then-as : {before x middle y after whole : List ℕ} {at next last : ℕ} → whole ≡ x ++ y
     → Appended before at x middle next → Appended middle next y after last → Appended before at whole after last
 then-as e first second = rw e (then first second)
-
--- two outcomes that a promise of `text` allows are the same
-pub decided : {before bytes a b : List ℕ} {at m n : ℕ}
-    → Appended before at bytes a m → Appended before at bytes b n → (a ≡ b) × (m ≡ n)
-decided first second = (first .holds ∙ sym (second .holds), first .place ∙ sym (second .place))

@@ -50,7 +50,8 @@ returns c =
     let a = at-load .before .before .before .before .before .args in
     let o = turnedAt (now (a .words)) (a .place) (a .heard) (a .turn) in
     acted-short (now (a .words)) (now (a .lists)) (a .place) o (a .leftover) (now (a .out)) _
-    (need-is (now (a .words)) (now (a .lists)) (a .place) (a .heard) (a .turn) _ _ (omega arith) (omega arith) (at-load .load .ensures) (c .before .need .ensures))
+    (need-is (now (a .words)) (now (a .lists)) (a .place) (a .heard) (a .turn) _ _ (omega arith) (omega arith)
+    (at-load .load .ensures) (c .before .need .ensures))
     (c .if1 .taken)
 
 primary-requires : tie.Need-primary-requires
@@ -82,7 +83,8 @@ returns-2 c =
     let a = at-load .before .before .before .before .before .args in
     let o = turnedAt (now (a .words)) (a .place) (a .heard) (a .turn) in
     acted-done (now (a .words)) (now (a .lists)) (a .place) o (a .leftover) (now (a .out)) _
-    (need-is (now (a .words)) (now (a .lists)) (a .place) (a .heard) (a .turn) _ _ (omega arith) (omega arith) (at-load .load .ensures) (at-room .before .need .ensures))
+    (need-is (now (a .words)) (now (a .lists)) (a .place) (a .heard) (a .turn) _ _ (omega arith) (omega arith)
+    (at-load .load .ensures) (at-room .before .need .ensures))
     _ _ (at-room .if1 .left) (c .before .before .change .ensures)
     (at-output .put-output .ensures
     ∙ output-is (now (a .words)) (now (a .lists)) (a .place) (a .heard) (a .turn) _ (now (a .out)) _ (at-load .load .ensures)
