@@ -16,6 +16,7 @@ use Rattle.places.specs.declared.place.Found.the-variants.{At, Nothing}
 use Rattle.places.specs.Place.{recordAt, setRecord, placeOf}
 use Rattle.events.specs.Lists.{setList}
 use Rattle.events.specs.Result.{routerPlace}
+use Rattle.events.specs.Events.{noRouter}
 
 -- an empty table: a primary address, and every other word 0
 unfoldable pub emptyOf : ℕ → List ℕ
@@ -50,7 +51,7 @@ newRouter vrid priority interval preempt n =
 
 -- a free place
 abbrev pub freed : Router
-freed = newRouter 0 0 0 false 0
+freed = noRouter
 
 -- "14 VRID 0; 15 priority 0; 16 interval 0; 17 address bytes not a multiple of 4, none, or above 64; 18 VRID already in the
 -- table; 19 no free place": "Configuring checks 14 to 19 in that order"

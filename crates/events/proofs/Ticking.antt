@@ -44,9 +44,9 @@ module _ (words lists : List ℕ) (p d : ℕ) (room : List ℕ) where
       → actedOf words lists p (t .outcome) (t .leftover) room ≡ clockedAt (At p) words lists d room
   ticked t e = sym (ap (λ (x : Ticked). actedOf words lists p (x .outcome) (x .leftover) room) e)
 
-  pub clocked-idle : eqb (stateNumber (r .state)) 0 ≡ true → Leaves (clockedAt (At p) words lists d room) (Done 0 0) words room
+  pub clocked-initialize : eqb (stateNumber (r .state)) 0 ≡ true → Leaves (clockedAt (At p) words lists d room) (Done 0 0) words room
   unfolding tickedOf
-  clocked-idle e =
+  clocked-initialize e =
       leaves-equal _ _ _ _ _ (ticked _ (idle-in (r .state) (primaryOf words) r d e))
       (acted-silent words lists p (stays r) 0 room words refl (sym (event-same words p)))
 

@@ -4,7 +4,9 @@ use mathlib.Core.Path.{_≡_}
 use mathlib.Core.List.{List}
 use mathlib.Core.Bool.{false, cond, _||_}
 use lib.Dec.{eqb, ltb}
+use Rattle.states.specs.declared.record.State.{State}
 use Rattle.states.specs.declared.record.State.the-variants.{Initialize}
+use Rattle.states.specs.declared.record.Counts.{Counts}
 use Rattle.states.specs.declared.record.Router.{Router}
 use Rattle.states.specs.declared.step.Event.{Event}
 use Rattle.states.specs.Step.{stepOf}
@@ -42,7 +44,14 @@ clockedOf words lists vrid ticks room = clockedAt (routerPlace words vrid) words
 -- router that has them
 pub record Status : Type 0 where
   pub number : ℕ
+  pub state : State
+  pub timer : ℕ
+  pub counts : Counts
   pub router : Router
+
+-- these of a router
+abbrev pub statusAs : ℕ → Router → Status
+statusAs number r = record { number = number; state = r .state; timer = r .timer; counts = r .counts; router = r }
 
 -- where there is no router
 abbrev pub noRouter : Router
@@ -60,8 +69,8 @@ noRouter =
 
 -- the status that each case of the enum is
 abbrev pub statusOf : Told → Status
-statusOf (Of r) = record { number = 0; router = r }
-statusOf (Refused number) = record { number = number; router = noRouter }
+statusOf (Of r) = statusAs 0 r
+statusOf (Refused number) = statusAs number noRouter
 
 -- a status is one value of the enum: `Refused` has not the 0 of `Of`
 abbrev pub ProperTold : Told → Type 0
@@ -70,8 +79,8 @@ ProperTold (Refused number) = ¬ (number ≡ 0)
 
 -- at the place that was found; 20 where it is not in the table
 abbrev pub askedAt : Found → List ℕ → Status
-askedAt Nothing words = record { number = 20; router = noRouter }
-askedAt (At place) words = record { number = 0; router = recordAt words place }
+askedAt Nothing words = statusAs 20 noRouter
+askedAt (At place) words = statusAs 0 (recordAt words place)
 
 -- a question about a virtual router
 unfoldable pub askedOf : List ℕ → ℕ → Status

@@ -9,7 +9,7 @@ use crate::answer::Answered;
 use crate::answer::Told;
 use places::interface::primary;
 use places::place::Found;
-use places::place::is_idle;
+use places::place::in_initialize;
 use places::place::load;
 use places::place::store_timer;
 use places::place::timer;
@@ -62,7 +62,7 @@ fn tick_at(words: &mut [u32], lists: &[u8], place: usize, ticks: u32, out: &mut 
         (clockedAt (At place) (now (words .entry)) (now (lists .entry)) ticks (now (out .entry)))
         r (now (words .exit)) (now (out .exit)) ⌝ }
 {
-    if is_idle(words, place) {
+    if in_initialize(words, place) {
         return Answered::Done(0, 0);
     }
     let remaining = timer(words, place);

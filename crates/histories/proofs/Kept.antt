@@ -14,15 +14,17 @@ use Rattle.judging.specs.declared.Judged.{Judged}
 use Rattle.judging.specs.declared.Judged.the-variants.{Accepted, Refused}
 use Rattle.judging.specs.Judging.{judgedOf, fieldsOf}
 use Rattle.judging.proofs.Accepted.{refused-most, refused-least, accepted-is}
+use Rattle.states.specs.declared.record.State.{State}
 use Rattle.states.specs.declared.step.Event.{Event}
 use Rattle.states.specs.declared.step.Outcome.{Outcome}
-use Rattle.states.specs.Step.{stepOf}
-use Rattle.router.specs.Clock.{tickedOf}
+use Rattle.states.specs.Step.{stays, stepOf}
+use Rattle.router.specs.Clock.{tickedIn, tickedOf}
 use Rattle.output.specs.Output.{needOf}
 use Rattle.places.specs.declared.place.Found.{Found}
 use Rattle.places.specs.declared.place.Found.the-variants.{At, Nothing}
 use Rattle.places.specs.Place.{primaryOf, recordAt, setEvent}
 use Rattle.places.specs.Place.{countWord, countRefusal, routerWord, countAtPlace}
+use Rattle.places.proofs.Events.{event-same}
 use Rattle.events.specs.Result.{Result, refuses, routerPlace, actedOf}
 use Rattle.events.specs.Events.{happenedAt, happenedOf, clockedAt, clockedOf}
 use Rattle.events.proofs.Sought.{sought-below}
@@ -32,7 +34,7 @@ use Rattle.packets.proofs.Heard.{refused-range}
 use Rattle.histories.specs.Rows.{packetOutcome}
 use Rattle.histories.specs.Kept.{OneCount, packetPlace, countedWord, Keeps}
 use Rattle.histories.specs.Theorems.{RefusedPacket, ShortPacket, RefusedEvent, RefusedClock, RefusedConfigure}
-use Rattle.histories.specs.Theorems.{RefusedRemove}
+use Rattle.histories.specs.Theorems.{RefusedRemove, NothingHappens, ClockInInitialize}
 
 -- an outcome at a place is done, and the words are those, or it is refused by 22, which changes nothing
 abbrev pub Ends : List ℕ → List ℕ → List ℕ → Result → Type 0
@@ -182,3 +184,27 @@ short-test words lists bytes room r (taken h e) s =
 
 pub short-packet : ShortPacket
 short-packet words lists bytes room = short-test words lists bytes room _ (heard-ends words lists bytes room)
+
+-- an outcome that changes nothing leaves every word
+same-test : (t : Bool) (a b : Result) (words : List ℕ) → a .words ≡ words → b .words ≡ words → cond t a b .words ≡ words
+same-test true a b words x y = x
+same-test false a b words x y = y
+
+acted-same : (words lists : List ℕ) (p : ℕ) (o : Outcome) (leftover : ℕ) (room : List ℕ) → o ≡ stays (recordAt words p)
+    → actedOf words lists p o leftover room .words ≡ words
+unfolding actedOf
+acted-same words lists p o leftover room e =
+    same-test (ltb (length room) (needOf (o .writes) (4 * o .router .count))) _ _ words refl
+    (ap (λ (x : Outcome). setEvent words p (x .router)) e ∙ event-same words p)
+
+pub nothing-happens : NothingHappens
+unfolding happenedOf
+nothing-happens words lists v p e room s h =
+    ap (λ (f : Found). happenedAt f words lists e room .words) s ∙ acted-same words lists p _ 0 room h
+
+pub clock-in-initialize : ClockInInitialize
+unfolding clockedOf tickedOf
+clock-in-initialize words lists v p d room s h =
+    ap (λ (f : Found). clockedAt f words lists d room .words) s
+    ∙ acted-same words lists p _ _ room
+    (ap (λ (x : State). tickedIn x (primaryOf words) (recordAt words p) d .outcome) h)

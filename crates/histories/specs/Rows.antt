@@ -22,7 +22,7 @@ use Rattle.output.specs.Output.{needOf}
 use Rattle.places.specs.Place.{primaryOf, recordAt}
 use Rattle.events.specs.Lists.{listAt, theirList, listsMatch}
 use Rattle.events.specs.Result.{Answer, done, short, refusal, routerPlace}
-use Rattle.events.specs.Events.{Status, noRouter}
+use Rattle.events.specs.Events.{Status, statusAs, noRouter}
 use Rattle.configuring.specs.Configuring.{isFound, placeIn}
 use Rattle.packets.specs.Packets.{acceptedAt}
 
@@ -94,7 +94,7 @@ answerBy number need leftover =
 
 -- "A question about a VRID answers its state, its remaining timer (0 in Initialize) and its counts", as its record has them
 abbrev pub statusBy : ℕ → Router → Status
-statusBy number router = record { number = number; router = cond (eqb number 0) router noRouter }
+statusBy number router = statusAs number (cond (eqb number 0) router noRouter)
 
 -- a number is one of these
 abbrev pub OneOf : List ℕ → ℕ → Type 0

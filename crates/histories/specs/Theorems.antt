@@ -14,7 +14,7 @@ use Rattle.judging.specs.declared.Judged.the-variants.{Accepted}
 use Rattle.judging.specs.Judging.{judgedOf}
 use Rattle.states.specs.declared.record.State.the-variants.{Initialize}
 use Rattle.states.specs.declared.step.Event.{Event}
-use Rattle.states.specs.Step.{counted}
+use Rattle.states.specs.Step.{counted, stays, stepOf}
 use Rattle.places.specs.declared.place.Found.the-variants.{At, Nothing}
 use Rattle.places.specs.Place.{baseOf, primaryOf, recordAt, placeOf}
 use Rattle.events.specs.declared.answer.Answered.{Answered}
@@ -338,6 +338,19 @@ abbrev pub ClockChanges : Type 0
 ClockChanges =
     (words lists : List ℕ) (vrid ticks : ℕ) (room : List ℕ)
     → OnlyThese words (clockedOf words lists vrid ticks room .words) (wordsAt (placeFor words vrid) (4 ∷ (5 ∷ (8 ∷ []))))
+
+-- "Startup outside Initialize, shutdown in Initialize .. change no state or timer": no word at all
+abbrev pub NothingHappens : Type 0
+NothingHappens =
+    (words lists : List ℕ) (vrid place : ℕ) (event : Event) (room : List ℕ) → routerPlace words vrid ≡ At place
+    → stepOf (primaryOf words) (recordAt words place) event ≡ stays (recordAt words place)
+    → happenedOf words lists vrid event room .words ≡ words
+
+-- "In Initialize nothing happens": a clock step changes no word
+abbrev pub ClockInInitialize : Type 0
+ClockInInitialize =
+    (words lists : List ℕ) (vrid place ticks : ℕ) (room : List ℕ) → routerPlace words vrid ≡ At place
+    → recordAt words place .state ≡ Initialize → clockedOf words lists vrid ticks room .words ≡ words
 
 -- "if d is below the remaining time, that falls by d": the timer's word alone
 abbrev pub TimerFalls : Type 0

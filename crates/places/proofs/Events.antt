@@ -15,6 +15,7 @@ use Rattle.states.specs.declared.record.Router.{Router}
 use Rattle.states.specs.Step.{stateNumber, counted, withState}
 use Rattle.states.proofs.Kept.{Unchanged}
 use Rattle.places.specs.Layout.{stateOf, decodeOf}
+use Rattle.places.specs.Theorems.{withEvent}
 use Rattle.places.specs.Place.{baseOf, recordAt, stateWord, setEvent, routerWord, countAtPlace}
 use Rattle.places.proofs.Beside.{Beside, beside-then, set-beside, part-word}
 use Rattle.places.proofs.Records.{state-back}
@@ -99,27 +100,27 @@ module _ (words : List ℕ) (p : ℕ) (r : Router) where
     unfolding setEvent
     became-word = getD-set-same three (baseOf p + 8) _ 0 (omega (arith, three-long))
 
-    -- a router that is configured as the one at the place, and whose packets were refused as often, is read back
-    pub event-record : Unchanged (recordAt words p) r → recordAt (setEvent words p r) p ≡ r
+    -- the words of the event, and of the old record
+    pub event-back : recordAt (setEvent words p r) p ≡ withEvent (recordAt words p) r
     unfolding recordAt decodeOf
-    event-record same-as =
+    event-back =
         λ z.
         record {
-          vrid = (ap (λ (n : ℕ). n % 256) (same 0 (omega arith)) ∙ sym (same-as .kept .vrid)) z;
-          priority = (ap (λ (n : ℕ). n % 256) (same 1 (omega arith)) ∙ sym (same-as .kept .priority)) z;
-          interval = (ap (λ (n : ℕ). n % 256) (same 2 (omega arith)) ∙ sym (same-as .kept .interval)) z;
-          preempt = (ap (λ (n : ℕ). eqb n 1) (same 3 (omega arith)) ∙ sym (same-as .kept .preempt)) z;
+          vrid = same 0 (omega arith) z % 256;
+          priority = same 1 (omega arith) z % 256;
+          interval = same 2 (omega arith) z % 256;
+          preempt = eqb (same 3 (omega arith) z) 1;
           state = (ap stateOf (read 4 (omega arith) ∙ state-word) ∙ state-stored (getD words (baseOf p + 4) 0) (r .state)) z;
           timer = (read 5 (omega arith) ∙ timer-word) z;
-          count = (ap (λ (n : ℕ). n % 17) (same 6 (omega arith)) ∙ sym (same-as .kept .count)) z;
+          count = same 6 (omega arith) z % 17;
           counts =
               record {
                 accepted = (read 7 (omega arith) ∙ accepted-word) z;
                 became = (read 8 (omega arith) ∙ became-word) z;
-                owner = (same 9 (omega arith) ∙ sym (same-as .owner)) z;
-                authentication = (same 10 (omega arith) ∙ sym (same-as .authentication)) z;
-                list = (same 11 (omega arith) ∙ sym (same-as .list-count)) z;
-                interval = (same 12 (omega arith) ∙ sym (same-as .interval-count)) z;
+                owner = same 9 (omega arith) z;
+                authentication = same 10 (omega arith) z;
+                list = same 11 (omega arith) z;
+                interval = same 12 (omega arith) z;
               };
         }
       where
@@ -130,6 +131,30 @@ module _ (words : List ℕ) (p : ℕ) (r : Router) where
         same : (k : ℕ) → (k < 16) × (k ≡ 4 → ⊥) × (k ≡ 5 → ⊥) × (k ≡ 7 → ⊥) × (k ≡ 8 → ⊥)
             → getD (take 16 (drop (baseOf p) (setEvent words p r))) k 0 ≡ getD (take 16 (drop (baseOf p) words)) k 0
         same k h = read k (h .0) ∙ kept-word k (h .1) (h .2) (h .3) (h .4) ∙ sym (part-word words p k (h .0))
+
+    -- a router that is configured as the one at the place, and whose packets were refused as often, is read back
+    pub event-record : Unchanged (recordAt words p) r → recordAt (setEvent words p r) p ≡ r
+    event-record same-as =
+        event-back
+        ∙ (λ z.
+        record {
+          vrid = sym (same-as .kept .vrid) z;
+          priority = sym (same-as .kept .priority) z;
+          interval = sym (same-as .kept .interval) z;
+          preempt = sym (same-as .kept .preempt) z;
+          state = r .state;
+          timer = r .timer;
+          count = sym (same-as .kept .count) z;
+          counts =
+              record {
+                accepted = r .counts .accepted;
+                became = r .counts .became;
+                owner = sym (same-as .owner) z;
+                authentication = sym (same-as .authentication) z;
+                list = sym (same-as .list-count) z;
+                interval = sym (same-as .interval-count) z;
+              };
+        })
 
 -- the words of the state and of the timer
 pub timer-is : (words : List ℕ) (p : ℕ) → recordAt words p .timer ≡ getD words (baseOf p + 5) 0
@@ -147,8 +172,8 @@ zero-test true b word x y = x
 zero-test false true word x y = x
 zero-test false false word x y = x
 
-pub idle-word : (words : List ℕ) (p : ℕ) → eqb (getD words (baseOf p + 4) 0) 0 ≡ eqb (stateNumber (recordAt words p .state)) 0
-idle-word words p =
+pub initialize-word : (words : List ℕ) (p : ℕ) → eqb (getD words (baseOf p + 4) 0) 0 ≡ eqb (stateNumber (recordAt words p .state)) 0
+initialize-word words p =
     let word = getD words (baseOf p + 4) 0 in
     zero-test (eqb word 0) (eqb word 1) word refl refl ∙ ap (λ (s : State). eqb (stateNumber s) 0) (sym (state-is words p))
 

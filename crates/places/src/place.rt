@@ -78,7 +78,7 @@ pub fn store_event(words: &mut [u32], place: usize, r: Router)
 }
 
 // Whether the router at a place is in Initialize.
-pub fn is_idle(words: &[u32], place: usize) -> bool
+pub fn in_initialize(words: &[u32], place: usize) -> bool
     requires { ⌜ (place < 255) × (length (now words) ≡ 4096) ⌝ }
     ensures { λ b. ⌜ b ≡ eqb (stateNumber (recordAt (now (words .entry)) place .state)) 0 ⌝ }
 {

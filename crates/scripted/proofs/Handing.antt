@@ -23,9 +23,9 @@ use Rattle.in_tables.specs.Tables.{listsOf}
 use Rattle.in_tables.proofs.Theorems.{packet-in-table}
 use Rattle.passing.specs.Passing.{freshRoom}
 use Rattle.stations.specs.List.{nowhere, deliveredAt}
-use Rattle.stepped.specs.Stepped.{hears, tableOf, Come}
+use Rattle.stepped.specs.Stepped.{hears, tableOf, Lived}
 use Rattle.stepped.proofs.Onward.{packet-onward}
-use Rattle.stepped.proofs.Theorems.{come-well-formed, come-on, come-router, last-sent}
+use Rattle.stepped.proofs.Theorems.{lived-well-formed, lived-configured, lived-router, last-sent}
 use Rattle.script.specs.declared.segment.Segment.{Segment}
 use Rattle.script.specs.declared.kinds.Kind.the-variants.{Deliver}
 use Rattle.script.specs.Kinds.{kindOf}
@@ -33,7 +33,7 @@ use Rattle.script.specs.Record.{withStations, refusalOf}
 use Rattle.scripted.specs.Scripted.{segmentAfter, NoneRefused, stationAt, Delivery, deliveryBytes, FromMasters}
 use Rattle.scripted.proofs.Listed.{first-mapped, mapped-set, delivered-is}
 use Rattle.scripted.proofs.Letters.{shown}
-use Rattle.scripted.proofs.Running.{ComeIn, Running, steps-on}
+use Rattle.scripted.proofs.Running.{LivedIn, Running, steps-on}
 use Rattle.scripted.proofs.Heard.{KeptOrMaster, heard}
 
 -- a delivery as the tables take it: the room is fresh
@@ -41,22 +41,22 @@ abbrev pub inTables : Delivery → TableDelivery
 inTables d = record { from = d .from; to = d .to; room = freshRoom }
 
 -- a packet that is handed to a station is that call of its table
-heard-called : (vrid interval : ℕ) (addresses : List ℕ) (s : Station) (bytes : List ℕ) → Come vrid interval addresses s
+heard-called : (vrid interval : ℕ) (addresses : List ℕ) (s : Station) (bytes : List ℕ) → Lived vrid interval addresses s
     → tableOf (heardBy s bytes freshRoom .station) ≡ called (tableOf s) (packet bytes freshRoom)
 unfolding listsOf
 heard-called vrid interval addresses s bytes c =
     let words = ap (λ (r : TableResult). r .words)
-    (packet-in-table s bytes freshRoom (come-well-formed vrid interval addresses s c)) in
+    (packet-in-table s bytes freshRoom (lived-well-formed vrid interval addresses s c)) in
     let lists = packet-onward s bytes freshRoom .addresses-are in
     rw (words, lists)
 
 -- what a station advertises is the segment's, with its own priority and primary address
-advertises : (vrid interval : ℕ) (addresses : List ℕ) (s : Station) → Come vrid interval addresses s
+advertises : (vrid interval : ℕ) (addresses : List ℕ) (s : Station) → Lived vrid interval addresses s
     → advertisementOf vrid (tableOf s)
     ≡ drop 14 (frameOf vrid (s .router .priority) interval (s .primary) addresses)
 advertises vrid interval addresses s c =
-    let table = come-router vrid interval addresses s c in
-    let on = come-on vrid interval addresses s c in
+    let table = lived-router vrid interval addresses s c in
+    let on = lived-configured vrid interval addresses s c in
     rw (table .2, table .0, table .1, on .0, on .1)
 
 -- the segment of that moment
@@ -73,7 +73,7 @@ module _ (segment : Segment) (running : Running segment) (some : segment .begun 
   -- the station of a number after some deliveries: configured as it was, and a Master's latest advertisement is still
   -- that of the moment
   pub record Same (i : ℕ) (s : Station) : Type 0 where
-    pub come : ComeIn segment s
+    pub lived : LivedIn segment s
     pub primary : s .primary ≡ stationAt segment i .primary
     pub priority : s .router .priority ≡ stationAt segment i .router .priority
     pub latest : MasterAt i → ¬ (s .sent ≡ 0) × (packetOf s ≡ advertised i)
@@ -90,7 +90,7 @@ module _ (segment : Segment) (running : Running segment) (some : segment .begun 
             λ i h.
             let c = running .each i h in
             record {
-              come = c;
+              lived = c;
               primary = refl;
               priority = refl;
               latest = last-sent (segment .vrid) (segment .interval) (segment .address) (stationAt segment i) c;
@@ -98,7 +98,7 @@ module _ (segment : Segment) (running : Running segment) (some : segment .begun 
       }
 
   -- a station that hears a packet
-  latest-test : (i : ℕ) (s after : Station) → Same i s → ComeIn segment after → after .primary ≡ stationAt segment i .primary
+  latest-test : (i : ℕ) (s after : Station) → Same i s → LivedIn segment after → after .primary ≡ stationAt segment i .primary
       → after .router .priority ≡ stationAt segment i .router .priority → i < segment .used → KeptOrMaster s after
       → MasterAt i → ¬ (after .sent ≡ 0) × (packetOf after ≡ advertised i)
   unfolding packetOf
@@ -113,11 +113,11 @@ module _ (segment : Segment) (running : Running segment) (some : segment .begun 
       → Same i (heardBy s bytes freshRoom .station)
   hears-same i s bytes h same =
       let onward = packet-onward s bytes freshRoom in
-      let c = steps-on (hears bytes freshRoom) (same .come) in
+      let c = steps-on (hears bytes freshRoom) (same .lived) in
       let p = onward .primary-is ∙ same .primary in
       let q = onward .router .priority ∙ same .priority in
       record {
-        come = c;
+        lived = c;
         primary = p;
         priority = q;
         latest = latest-test i s _ same c p q h (heard s bytes freshRoom);
@@ -172,7 +172,7 @@ module _ (segment : Segment) (running : Running segment) (some : segment .begun 
         let there = first-mapped tableOf l used to (begun 0 []) receiver few in
         let then = first-mapped tableOf (segment .stations) used from (begun 0 []) sender all in
         let hands = heard-called (segment .vrid) (segment .interval) (segment .address) (getD l to nowhere)
-        (packetOf (getD l from nowhere)) (stands .each to receiver .come) in
+        (packetOf (getD l from nowhere)) (stands .each to receiver .lived) in
         mapped-set tableOf l used to after receiver
         ∙ rw (there, then, ← sent .1) (ap (set (tablesOf l) to) hands)
 

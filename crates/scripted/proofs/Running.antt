@@ -20,7 +20,7 @@ use Rattle.station.specs.Making.{stationRefusal, madeOf}
 use Rattle.steps.specs.Steps.{happenedTo}
 use Rattle.passing.specs.Passing.{freshRoom}
 use Rattle.stations.specs.List.{nowhere, allPassed}
-use Rattle.stepped.specs.Stepped.{Step, starts, shuts, passes, hears, stepped, steppedAll, Come}
+use Rattle.stepped.specs.Stepped.{Step, starts, shuts, passes, hears, stepped, steppedAll, Lived}
 use Rattle.script.specs.declared.segment.Segment.{Segment}
 use Rattle.script.specs.declared.kinds.Kind.{Kind}
 use Rattle.script.specs.declared.kinds.Kind.the-variants.{
@@ -48,8 +48,8 @@ pub record Named (vrid interval : ℕ) (address : List ℕ) : Type 0 where
   pub bytes : Bytes address
   pub listed : addressBytesWrong address ≡ false
 
-abbrev pub ComeIn : Segment → Station → Type 0
-ComeIn segment s = Come (segment .vrid) (segment .interval) (segment .address) s
+abbrev pub LivedIn : Segment → Station → Type 0
+LivedIn segment s = Lived (segment .vrid) (segment .interval) (segment .address) s
 
 pub record Running (segment : Segment) : Type 0 where
   pub few : segment .used ≤ 16
@@ -57,7 +57,7 @@ pub record Running (segment : Segment) : Type 0 where
   -- before a segment record no station is there
   pub none : segment .begun ≡ false → segment .used ≡ 0
   pub named : segment .begun ≡ true → Named (segment .vrid) (segment .interval) (segment .address)
-  pub each : (i : ℕ) → i < segment .used → ComeIn segment (stationAt segment i)
+  pub each : (i : ℕ) → i < segment .used → LivedIn segment (stationAt segment i)
 
 -- one more step
 more-steps : (s : Station) (steps : List Step) (step : Step)
@@ -65,8 +65,8 @@ more-steps : (s : Station) (steps : List Step) (step : Step)
 more-steps s [] step = refl
 more-steps s (first ∷ steps) step = more-steps (stepped s first) steps step
 
-pub steps-on : {vrid interval : ℕ} {addresses : List ℕ} {s : Station} (step : Step) → Come vrid interval addresses s
-    → Come vrid interval addresses (stepped s step)
+pub steps-on : {vrid interval : ℕ} {addresses : List ℕ} {s : Station} (step : Step) → Lived vrid interval addresses s
+    → Lived vrid interval addresses (stepped s step)
 steps-on step c =
     record {
       priority = c .priority;
@@ -79,19 +79,19 @@ steps-on step c =
       bytes = c .bytes;
       taken = c .taken;
       steps = c .steps ++ (step ∷ []);
-      come = ap (λ (x : Station). stepped x step) (c .come) ∙ more-steps _ (c .steps) step;
+      lived = ap (λ (x : Station). stepped x step) (c .lived) ∙ more-steps _ (c .steps) step;
     }
 
 module _ (segment : Segment) (running : Running segment) where
   -- other stations, as many as before
   moved : (stations : List Station) → length stations ≡ 16
-      → ((i : ℕ) → i < segment .used → ComeIn segment (getD stations i nowhere)) → Running (withStations segment stations)
+      → ((i : ℕ) → i < segment .used → LivedIn segment (getD stations i nowhere)) → Running (withStations segment stations)
   moved stations long each =
       record { few = running .few; long = long; none = running .none; named = running .named; each = each }
 
   -- a station is put at a number
-  set-test : (at : ℕ) (s : Station) → ComeIn segment s → at < 16 → (i : ℕ) → (i ≡ at) ⊎ (i ≡ at → ⊥)
-      → (¬ (i ≡ at) → ComeIn segment (stationAt segment i)) → ComeIn segment (getD (set (segment .stations) at s) i nowhere)
+  set-test : (at : ℕ) (s : Station) → LivedIn segment s → at < 16 → (i : ℕ) → (i ≡ at) ⊎ (i ≡ at → ⊥)
+      → (¬ (i ≡ at) → LivedIn segment (stationAt segment i)) → LivedIn segment (getD (set (segment .stations) at s) i nowhere)
   set-test at s c h i (inl e) old =
       let within : at < length (segment .stations) = omega (arith, running .long) in
       rw (e, getD-set-same (segment .stations) at s nowhere within) c
@@ -141,7 +141,7 @@ module _ (vrid priority interval : ℕ) (addresses : List ℕ) (named : Named vr
       )
 
   made-comes : (preempt : Bool) (primary : ℕ) → primary < 2 ^ 32
-      → Come vrid interval addresses (madeOf vrid priority interval preempt primary addresses .station)
+      → Lived vrid interval addresses (madeOf vrid priority interval preempt primary addresses .station)
   made-comes preempt primary fits =
       record {
         priority = priority;
@@ -154,7 +154,7 @@ module _ (vrid priority interval : ℕ) (addresses : List ℕ) (named : Named vr
         bytes = named .bytes;
         taken = not-refused;
         steps = [];
-        come = refl;
+        lived = refl;
       }
 
 -- one record
@@ -187,7 +187,7 @@ module _ (segment : Segment) (running : Running segment) (body : List ℕ) (byte
       let named = running .named begun in
       let free : segment .used < 16 = ltb-true (segment .used) 16 (not-false _ (checks .1 .1 .1 .0)) in
       let s = stationIn segment body in
-      let new : ComeIn segment s =
+      let new : LivedIn segment s =
       made-comes (segment .vrid) (getD body 0 0) (segment .interval) (segment .address) named (bytes 0)
       (eqb-false (getD body 0 0) 0 (checks .1 .1 .1 .1 .0)) _ _ (omega (arith, bytes 2, bytes 3, bytes 4, bytes 5)) in
       record {

@@ -18,7 +18,7 @@ use Rattle.segment.proofs.Theorems.{one-master-remains}
 use Rattle.station.specs.declared.station.Station.{Station}
 use Rattle.stations.specs.List.{nowhere}
 use Rattle.stepped.specs.Stepped.{tableOf}
-use Rattle.stepped.proofs.Theorems.{come-stands, come-router}
+use Rattle.stepped.proofs.Theorems.{lived-stands, lived-router}
 use Rattle.script.specs.declared.segment.Segment.{Segment}
 use Rattle.script.specs.Kinds.{kindOf}
 use Rattle.script.specs.Record.{withStations}
@@ -104,12 +104,12 @@ module _ (segment : Segment) (running : Running segment) (some : segment .begun 
       router-is : routerOf vrid (tableAt (now l) i) ≡ getD l i nowhere .router
       router-is =
           ap (routerOf vrid) table-is
-          ∙ come-router vrid (segment .interval) (segment .address) (getD l i nowhere) (stands .each i h .come) .0
+          ∙ lived-router vrid (segment .interval) (segment .address) (getD l i nowhere) (stands .each i h .lived) .0
 
       primary-is : primaryAddress (tableAt (now l) i) ≡ getD l i nowhere .primary
       primary-is =
           ap primaryAddress table-is
-          ∙ come-router vrid (segment .interval) (segment .address) (getD l i nowhere) (stands .each i h .come) .1
+          ∙ lived-router vrid (segment .interval) (segment .address) (getD l i nowhere) (stands .each i h .lived) .1
 
       master-shows : IsMaster vrid (tableAt (now l) i) → ShowsM (withStations segment l) i
       master-shows m = shows (withStations segment l) few i h (ap (λ (r : Router). r .state) (sym router-is) ∙ m)
@@ -158,7 +158,7 @@ module _ (segment : Segment) (running : Running segment) (some : segment .begun 
           each =
               λ i h.
               rw (table-is l begin i (within i h))
-              (come-stands vrid (segment .interval) (segment .address) (stationAt segment i) (running .each i (within i h)));
+              (lived-stands vrid (segment .interval) (segment .address) (stationAt segment i) (running .each i (within i h)));
           apart =
               λ i j h k e.
               apart i j (within i h) (within j k)

@@ -26,8 +26,8 @@ use Rattle.in_tables.proofs.Tables.{first-record, primary-is, found-first, firs
 use Rattle.in_tables.proofs.Begun.{made-in-table, made-well-formed}
 use Rattle.segment.specs.Segment.{routerOf, addressesOf, Reached, Stands, advertisementOf}
 use Rattle.histories.proofs.Lists.{zeros-listed}
-use Rattle.stepped.specs.Stepped.{tableOf, Come}
-use Rattle.stepped.specs.Theorems.{ComeWellFormed, ComeOn, ComeReached, ComeStands, ComeRouter, LastSent}
+use Rattle.stepped.specs.Stepped.{tableOf, Lived}
+use Rattle.stepped.specs.Theorems.{LivedWellFormed, LivedConfigured, LivedReached, LivedStands, LivedRouter, LastSent}
 use Rattle.stepped.proofs.Onward.{Latest, Onward, list-same}
 use Rattle.stepped.proofs.Lives.{all-stay, all-onward}
 use Rattle.stepped.proofs.Calls.{historyOf, given-history, history-called}
@@ -67,7 +67,7 @@ module _ (vrid priority interval : ℕ) (preempt : Bool) (primary : ℕ) (addres
       rw (m .1, m .2)
 
 -- and one that steps have made of it
-module _ (vrid interval : ℕ) (addresses : List ℕ) (s : Station) (c : Come vrid interval addresses s) where
+module _ (vrid interval : ℕ) (addresses : List ℕ) (s : Station) (c : Lived vrid interval addresses s) where
   abbrev before : Station
   before = madeOf vrid (c .priority) interval (c .preempt) (c .primary) addresses .station
 
@@ -80,10 +80,10 @@ module _ (vrid interval : ℕ) (addresses : List ℕ) (s : Station) (c : Come vr
       (c .interval-byte)
 
   onward : Onward before s
-  onward = subst (λ (x : Station). Onward before x) (sym (c .come)) (all-onward before (c .steps))
+  onward = subst (λ (x : Station). Onward before x) (sym (c .lived)) (all-onward before (c .steps))
 
   formed : WellFormed s
-  formed = subst WellFormed (sym (c .come)) (all-stay before (c .steps) before-formed)
+  formed = subst WellFormed (sym (c .lived)) (all-stay before (c .steps) before-formed)
 
   on : (s .router .vrid ≡ vrid) × (s .router .interval ≡ interval) × (listOf s ≡ addresses)
       × (s .primary ≡ c .primary) × (s .router .priority ≡ c .priority) × (s .router .preempt ≡ c .preempt)
@@ -130,7 +130,7 @@ module _ (vrid interval : ℕ) (addresses : List ℕ) (s : Station) (c : Come vr
         long = zeros-listed .long;
         given = ((c .vrid-byte, c .priority-byte, c .interval-byte, c .bytes), given-history vrid before (c .steps));
         reached =
-            ap tableOf (c .come)
+            ap tableOf (c .lived)
             ∙ sym (history-called vrid before (c .steps) before-formed named)
             ∙ ap (λ (m : Memory). after m history) (sym first);
       }
@@ -147,20 +147,20 @@ module _ (vrid interval : ℕ) (addresses : List ℕ) (s : Station) (c : Come vr
   last : s .router .state ≡ Master → ¬ (s .sent ≡ 0) × (packetOf s ≡ advertisementOf vrid (tableOf s))
   last master = rw (list-is, router-is, primary-is s formed) (latest master)
 
-pub come-well-formed : ComeWellFormed
-come-well-formed = formed
+pub lived-well-formed : LivedWellFormed
+lived-well-formed = formed
 
-pub come-on : ComeOn
-come-on = on
+pub lived-configured : LivedConfigured
+lived-configured = on
 
-pub come-reached : ComeReached
-come-reached = reached
+pub lived-reached : LivedReached
+lived-reached = reached
 
-pub come-stands : ComeStands
-come-stands = stands
+pub lived-stands : LivedStands
+lived-stands = stands
 
-pub come-router : ComeRouter
-come-router vrid interval addresses s c = (
+pub lived-router : LivedRouter
+lived-router vrid interval addresses s c = (
   router-is vrid interval addresses s c,
   primary-is s (formed vrid interval addresses s c),
   stands vrid interval addresses s c .addresses-are,

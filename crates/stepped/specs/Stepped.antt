@@ -39,7 +39,7 @@ abbrev pub tableOf : Station → Memory
 tableOf s = record { words = wordsOf s; lists = listsOf s }
 
 -- a station of a segment: made, and stepped any number of times
-pub record Come (vrid interval : ℕ) (addresses : List ℕ) (s : Station) : Type 0 where
+pub record Lived (vrid interval : ℕ) (addresses : List ℕ) (s : Station) : Type 0 where
   pub priority : ℕ
   pub preempt : Bool
   pub primary : ℕ
@@ -53,4 +53,4 @@ pub record Come (vrid interval : ℕ) (addresses : List ℕ) (s : Station) : Typ
   -- it was not refused
   pub taken : stationRefusal vrid priority interval addresses ≡ 0
   pub steps : List Step
-  pub come : s ≡ steppedAll (madeOf vrid priority interval preempt primary addresses .station) steps
+  pub lived : s ≡ steppedAll (madeOf vrid priority interval preempt primary addresses .station) steps

@@ -7,12 +7,12 @@ use denote.Ref.{now}
 use Rattle.states.specs.declared.step.Event.the-variants.{Timer}
 use Rattle.events.proofs.Acted.{turned-step}
 use Rattle.events.proofs.Sought.{leaves-equal}
-use Rattle.events.proofs.Ticking.{clocked-idle, clocked-falls, clocked-fires}
+use Rattle.events.proofs.Ticking.{clocked-initialize, clocked-falls, clocked-fires}
 use Rattle.events.proofs.tick_at.Statement.{statement}
 use Rattle.events.proofs.tick_at.Tie as tie
 
-is-idle-requires : tie.Need-is-idle-requires
-is-idle-requires c κs = search needs
+in-initialize-requires : tie.Need-in-initialize-requires
+in-initialize-requires c κs = search needs
 
 same-length : tie.Need-same-length
 same-length c = search needs
@@ -20,8 +20,8 @@ same-length c = search needs
 returns : tie.Need-returns
 returns c =
     let a = c .before .before .before .before .before .before .args in
-    clocked-idle (now (a .words)) (now (a .lists)) (a .place) (a .ticks) (now (a .out))
-    (sym (c .before .is-idle .ensures) ∙ c .if1 .taken)
+    clocked-initialize (now (a .words)) (now (a .lists)) (a .place) (a .ticks) (now (a .out))
+    (sym (c .before .in-initialize .ensures) ∙ c .if1 .taken)
 
 timer-requires : tie.Need-timer-requires
 timer-requires c κs = search needs
@@ -42,7 +42,7 @@ returns-2 c =
     let a = at-idle .before .before .before .before .before .before .args in
     let timer = at-timer .timer .ensures in
     clocked-falls (now (a .words)) (now (a .lists)) (a .place) (a .ticks) (now (a .out)) _
-    (sym (at-idle .before .is-idle .ensures) ∙ at-idle .if1 .left) (omega arith)
+    (sym (at-idle .before .in-initialize .ensures) ∙ at-idle .if1 .left) (omega arith)
     (c .before .before .store-timer .ensures ∙ rw timer)
 
 load-requires : tie.Need-load-requires
@@ -72,7 +72,7 @@ returns-3 c =
     let at-idle = at-timer .before .before in
     let a = at-idle .before .before .before .before .before .before .args in
     let timer = at-timer .timer .ensures in
-    let not-idle = sym (at-idle .before .is-idle .ensures) ∙ at-idle .if1 .left in
+    let not-idle = sym (at-idle .before .in-initialize .ensures) ∙ at-idle .if1 .left in
     leaves-equal _ _ _ _ _
     (turned-step (now (a .words)) (now (a .lists)) (a .place) Timer _ (now (a .out)) _
     (at-turn .turn .ensures ∙ rw (at-primary .primary .ensures, at-load .load .ensures))
@@ -83,7 +83,7 @@ pub tick-at-spec : {M : Type 1} → statement M
 tick-at-spec =
     tie.close
     (tie.spec
-    is-idle-requires
+    in-initialize-requires
     same-length
     returns
     timer-requires

@@ -1,10 +1,10 @@
--- `places::place::is_idle` meets its contract.
+-- `places::place::in_initialize` meets its contract.
 -- Assumes nothing.
 use borrow.Author.Needs.{needs}
 use denote.Ref.{now}
-use Rattle.places.proofs.Events.{idle-word}
-use Rattle.places.proofs.place.is_idle.Statement.{statement}
-use Rattle.places.proofs.place.is_idle.Tie as tie
+use Rattle.places.proofs.Events.{initialize-word}
+use Rattle.places.proofs.place.in_initialize.Statement.{statement}
+use Rattle.places.proofs.place.in_initialize.Tie as tie
 
 mul-result : tie.Need-mul-result
 mul-result c = search needs
@@ -22,9 +22,9 @@ shared-slice-read-result : tie.Need-shared-slice-read-result
 shared-slice-read-result c = search needs
 
 returns : tie.Need-returns
-returns c = idle-word (now (c .before .args .words)) (c .before .args .place)
+returns c = initialize-word (now (c .before .args .words)) (c .before .args .place)
 
-pub is-idle-spec : {M : Type 1} → statement M
-is-idle-spec =
+pub in-initialize-spec : {M : Type 1} → statement M
+in-initialize-spec =
     tie.close
     (tie.spec mul-result add-result add-result-2 mul-result-2 shared-slice-read-result returns)
