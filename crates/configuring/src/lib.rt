@@ -1,4 +1,6 @@
 // An empty table, configuring and removing a virtual router.
+#![tactic(auto)]
+
 ghost use Rattle.std.specs.Prelude.{◌≡◌, ◌/◌, ◌≤◌, ◌<◌, length};
 ghost use Rattle.states.specs.Step.{state_number};
 ghost use Rattle.places.specs.Place.{record_at, set_record, place_of};

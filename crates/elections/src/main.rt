@@ -1,4 +1,6 @@
 // Runs elections, one binary record each on standard input, and prints for each who remains Master.
+#![tactic(auto)]
+
 mod lines; // the line of an election
 mod segment; // the stations of a record, and its deliveries
 

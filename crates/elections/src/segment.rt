@@ -7,7 +7,7 @@ use records::reading::{Head, least, number_at, read_head, word_at};
 use station::making::new_station;
 use station::station::Station;
 
-#[derive(Drop)]
+#[derive(Clone, Copy)]
 pub struct Segment {
     pub stations: [Station; 16],
     // whether the record is good so far

@@ -1,7 +1,7 @@
 // How a call ends.
 use states::record::Router;
 
-#[derive(Drop)]
+#[derive(Clone, Copy)]
 pub enum Answered {
     // done: so many bytes stand at the start of the room, and so many ticks are left over
     Done(usize, u32),
@@ -12,7 +12,7 @@ pub enum Answered {
 }
 
 // What a question is told.
-#[derive(Drop)]
+#[derive(Clone, Copy)]
 pub enum Told {
     // the router's record: its state, its timer and its counts
     Of(Router),

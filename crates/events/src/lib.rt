@@ -1,4 +1,6 @@
 // Startup, shutdown, clock and questions on the router of a VRID.
+#![tactic(auto)]
+
 pub mod answer; // how a call ends
 pub mod lists; // address lists in lent bytes
 pub mod acting; // an event's outcome at a place

@@ -1,4 +1,6 @@
 // The IPv4 header of a packet: refusals 1 to 4.
+#![tactic(auto)]
+
 ghost use Rattle.std.specs.Prelude.{◌≡◌, ◌≤◌, true, length};
 ghost use Rattle.wire.specs.Check.{first_refusal};
 ghost use Rattle.headers.specs.Packet.{header_length, total_length, cause_of, header_sum_wrong, not_ours, header_checks};

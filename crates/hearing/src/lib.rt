@@ -1,4 +1,6 @@
 // A packet that is handed over to a station.
+#![tactic(auto)]
+
 ghost use Rattle.std.specs.Prelude.{◌≡◌, ◌+◌, ◌*◌, ◌≤◌, length};
 ghost use Rattle.station.specs.Station.{Leaves};
 ghost use Rattle.hearing.specs.Hearing.{counted_by, refused_by, refusal_by, accepted_by, sought_by, heard_by};

@@ -1,4 +1,6 @@
 // Judges one packet from standard input, and says by which rule it is refused or what it announces.
+#![tactic(auto)]
+
 mod accepted; // what an accepted packet announces
 mod reasons; // what a refusal stands for
 

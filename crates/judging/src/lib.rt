@@ -1,4 +1,6 @@
 // Judging a packet of any length: the first of refusals 1 to 8, or the fields.
+#![tactic(auto)]
+
 mod message; // the VRRP message, refusals 5 to 8
 
 ghost use Rattle.std.specs.Prelude.{◌≡◌, ◌≤◌, length};
@@ -9,7 +11,7 @@ use headers::{header_length, header_refusal, total_length};
 use sums::number;
 
 // What a packet that passes refusals 1 to 8 says.
-#[derive(Drop)]
+#[derive(Clone, Copy)]
 pub struct Fields {
     // the source address, first byte greatest
     pub source: u32,
@@ -25,7 +27,7 @@ pub struct Fields {
     pub list: usize,
 }
 
-#[derive(Drop)]
+#[derive(Clone, Copy)]
 pub enum Judged {
     Accepted(Fields),
     // the number of the first check that fails

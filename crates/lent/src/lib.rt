@@ -1,4 +1,6 @@
 // Plain parameters above the lent list: a copy of the stations is lent, beside a room for what the step writes.
+#![tactic(auto)]
+
 ghost use Rattle.std.specs.Prelude.{◌≡◌};
 ghost use Rattle.passing.specs.Passing.{fresh_room};
 ghost use Rattle.lent.specs.Lent.{moved_by, stepped_by};
@@ -9,7 +11,7 @@ use station::station::Station;
 use stations::list;
 
 // A step, and the numbers of the stations that it is for.
-#[derive(Drop)]
+#[derive(Clone, Copy)]
 pub enum Step {
     Startup(usize),
     Shutdown(usize),
@@ -18,7 +20,7 @@ pub enum Step {
 }
 
 // What a step leaves: all stations, and its answer.
-#[derive(Drop)]
+#[derive(Clone, Copy)]
 pub struct Moved {
     pub stations: [Station; 16],
     pub answer: Answered,

@@ -1,4 +1,6 @@
 // What an event has a router write into a lent room: an advertisement frame, and ARP frames behind it.
+#![tactic(auto)]
+
 ghost use Rattle.std.specs.Prelude.{◌≡◌, ◌*◌, ◌/◌, ◌%◌, ◌≤◌, length};
 ghost use Rattle.writing.specs.Writing.{over};
 ghost use Rattle.output.specs.Output.{arps_of, bytes_of, need_of};

@@ -1,4 +1,6 @@
 // A packet that the host hands over.
+#![tactic(auto)]
+
 ghost use Rattle.std.specs.Prelude.{◌≡◌, ◌+◌, ◌*◌, ◌≤◌, ◌<◌, length};
 ghost use Rattle.states.specs.Turn.{turn_of};
 ghost use Rattle.events.specs.Lists.{list_at, their_list, lists_match};

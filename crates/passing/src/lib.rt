@@ -1,4 +1,6 @@
 // Time for one station, firing as often as due.
+#![tactic(auto)]
+
 ghost use Rattle.std.specs.Prelude.{◌≡◌, ◌-◌, ◌%◌};
 ghost use Rattle.passing.specs.Passing.{passed};
 ghost use Rattle.passing.specs.Elapsed.{due_in, counts_in, fired_of, elapsed_of};

@@ -8,7 +8,7 @@ use crate::layout::{decode, encode, state_of};
 use states::record::{Router, State};
 use states::step::state_number;
 
-#[derive(Drop)]
+#[derive(Clone, Copy)]
 pub enum Found {
     At(usize),
     Nothing,

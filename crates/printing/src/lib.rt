@@ -1,4 +1,6 @@
 // The lines that the rehearsal prints.
+#![tactic(auto)]
+
 ghost use Rattle.std.specs.Prelude.{◌≡◌, ◌∷◌, ◌≤◌, length};
 ghost use Rattle.text.specs.Appended.{Appended};
 ghost use Rattle.script.specs.Lines.{Printed, letter_of, letters_of, line_of, printed_of, refused_line};

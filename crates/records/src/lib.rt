@@ -1,4 +1,6 @@
 // What the test programs share: binary records on standard input, and text on standard output.
+#![tactic(auto)]
+
 pub mod page; // what is printed
 pub mod reading; // bytes as they come
 pub mod record; // a record by value

@@ -8,7 +8,7 @@ use crate::reading::{read_head, read_tail, word_at};
 pub const ABSENT: usize = 14;
 
 // What stands where in a record of some kind.
-#[derive(Drop)]
+#[derive(Clone, Copy)]
 pub struct Shape {
     // how many bytes the head has: 0 for a kind that there is none of
     pub head: usize,
@@ -27,14 +27,14 @@ pub fn laid_out(head: usize, room: usize, tail: usize) -> Shape {
 }
 
 // The byte that a record begins with.
-#[derive(Drop)]
+#[derive(Clone, Copy)]
 pub struct Kind {
     pub byte: u8,
     // whether there is a record at all
     pub came: bool,
 }
 
-#[derive(Drop)]
+#[derive(Clone, Copy)]
 pub struct Record {
     pub kind: u8,
     // the fields, with zeros behind them

@@ -1,4 +1,6 @@
 // What refuses a record, by its kind.
+#![tactic(auto)]
+
 ghost use Rattle.std.specs.Prelude.{◌≡◌, ◌≤◌, length};
 ghost use Rattle.wire.specs.Check.{first_refusal};
 ghost use Rattle.script.specs.Kinds.{body_length};

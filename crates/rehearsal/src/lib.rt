@@ -1,4 +1,6 @@
 // A script that is run in pieces, as much at a time as there is room for.
+#![tactic(auto)]
+
 ghost use Rattle.std.specs.Prelude.{◌≡◌};
 ghost use Rattle.script.specs.Progress.{started};
 ghost use Rattle.rehearsal.specs.Run.{RunLeaves};

@@ -1,4 +1,6 @@
 // Rehearses a segment of stations from the script on standard input, and prints what comes of it.
+#![tactic(auto)]
+
 use libc::{STDIN_FILENO, STDOUT_FILENO};
 use rehearsal::{run, start};
 

@@ -1,4 +1,6 @@
 // Replays a history of calls on a table, one binary record each on standard input, and prints a line for each.
+#![tactic(auto)]
+
 mod calls; // the call that a record makes
 mod lines; // the line of a call
 mod shapes; // the records of each kind

@@ -1,11 +1,13 @@
 // Putting bytes into a room that the caller lends.
+#![tactic(auto)]
+
 pub mod bytes; // the bytes of a number
 
 ghost use Rattle.std.specs.Prelude.{◌≡◌, ◌+◌, ◌≤◌, length};
 ghost use Rattle.std.proofs.Math.Seq.{paste};
 
 // Every way that writing can end.
-#[derive(Drop)]
+#[derive(Clone, Copy)]
 pub enum Written {
     // the frame stands at the start of the room, so many bytes long
     Frame(usize),

@@ -5,7 +5,7 @@ ghost use Rattle.router.specs.Clock.{falls, fires, ticked_of};
 use states::record::{Router, State};
 use states::step::{Event, Outcome, stay, step};
 
-#[derive(Drop)]
+#[derive(Clone, Copy)]
 pub struct Ticked {
     pub outcome: Outcome,
     // what is left of the ticks where the timer fired

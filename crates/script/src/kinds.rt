@@ -4,7 +4,7 @@ ghost use Rattle.wire.specs.Check.{first_refusal};
 ghost use Rattle.script.specs.Kinds.{kind_of, kind_number, body_length};
 ghost use Rattle.script.specs.Checks.{record_checks};
 
-#[derive(Drop)]
+#[derive(Clone, Copy)]
 pub enum Kind {
     Unknown,
     NewSegment,

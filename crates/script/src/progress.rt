@@ -5,7 +5,7 @@ ghost use Rattle.script.specs.Progress.{reading_of, progress_of};
 use crate::segment::Segment;
 use station::station::Station;
 
-#[derive(Drop)]
+#[derive(Clone, Copy)]
 pub struct Progress {
     pub segment: Segment,
     // where the next record begins
@@ -16,7 +16,7 @@ pub struct Progress {
 }
 
 // A progress less its stations: they are kept apart, so that a record moves them alone.
-#[derive(Drop)]
+#[derive(Clone, Copy)]
 pub struct Reading {
     // how many stations there are
     pub used: usize,

@@ -6,7 +6,7 @@ ghost use Rattle.script.specs.Script.{empty_segment};
 use station::making::new_station;
 use station::station::Station;
 
-#[derive(Drop)]
+#[derive(Clone, Copy)]
 pub struct Segment {
     // in number order; those from `used` on are not there yet
     pub stations: [Station; 16],

@@ -1,7 +1,7 @@
 // The record of one virtual router.
 use crate::step::Writes;
 
-#[derive(Drop)]
+#[derive(Clone, Copy)]
 pub enum State {
     Initialize,
     Backup,
@@ -9,7 +9,7 @@ pub enum State {
 }
 
 // The counts of a router, each a 32-bit counter that goes from its greatest value to 0.
-#[derive(Drop)]
+#[derive(Clone, Copy)]
 pub struct Counts {
     // packets accepted, in any state
     pub accepted: u32,
@@ -22,7 +22,7 @@ pub struct Counts {
     pub interval: u32,
 }
 
-#[derive(Drop)]
+#[derive(Clone, Copy)]
 pub struct Router {
     pub vrid: u8,
     // 255 is the address owner
@@ -39,7 +39,7 @@ pub struct Router {
 }
 
 // What an event changes of a router: its next state and timer, and what it has it write.
-#[derive(Drop)]
+#[derive(Clone, Copy)]
 pub struct Turn {
     pub state: State,
     pub timer: u32,

@@ -8,7 +8,7 @@ ghost use Rattle.states.specs.Turn.{turn_of, became_by, applied_to};
 use crate::record::{Router, State, Turn};
 use crate::timers::{advertisement_interval, master_down, skew};
 
-#[derive(Drop)]
+#[derive(Clone, Copy)]
 pub enum Event {
     Startup,
     Shutdown,
@@ -18,7 +18,7 @@ pub enum Event {
 }
 
 // What an event has the router write.
-#[derive(Drop)]
+#[derive(Clone, Copy)]
 pub enum Writes {
     Nothing,
     Advertisement,
@@ -28,7 +28,7 @@ pub enum Writes {
     Takeover,
 }
 
-#[derive(Drop)]
+#[derive(Clone, Copy)]
 pub struct Outcome {
     pub router: Router,
     pub writes: Writes,

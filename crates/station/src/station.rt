@@ -2,7 +2,7 @@
 use events::answer::Answered;
 use states::record::Router;
 
-#[derive(Drop)]
+#[derive(Clone, Copy)]
 pub struct Station {
     pub primary: u32,
     pub router: Router,
@@ -16,7 +16,7 @@ pub struct Station {
     pub sent: usize,
 }
 
-#[derive(Drop)]
+#[derive(Clone, Copy)]
 pub struct Stepped {
     pub station: Station,
     pub answer: Answered,

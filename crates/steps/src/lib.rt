@@ -1,4 +1,6 @@
 // The steps of a station: startup, shutdown, clock and delivery, for any station and any room.
+#![tactic(auto)]
+
 ghost use Rattle.std.specs.Prelude.{◌≡◌, cond, ◌≤◌, ltb};
 ghost use Rattle.states.specs.declared.step.Event.TheVariants.{Startup, Shutdown};
 ghost use Rattle.station.specs.Station.{Leaves};

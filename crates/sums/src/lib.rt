@@ -1,4 +1,6 @@
 // The one's complement sum of bytes where they stand: nothing is copied to be summed.
+#![tactic(auto)]
+
 ghost use Rattle.std.specs.Prelude.{◌≡◌, ◌*◌, ◌/◌, ◌%◌, ◌≤◌, length};
 ghost use Rattle.sums.specs.Sum.{sum_of};
 ghost use Rattle.sums.specs.Number.{number_of};

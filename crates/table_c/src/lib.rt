@@ -1,4 +1,6 @@
 // The table's calls as the benchmark makes them from C: thin over `table`, answering 0 or the refusal's number alone.
+#![tactic(auto)]
+
 ghost use Rattle.std.specs.Prelude.{◌≡◌};
 ghost use Rattle.states.specs.declared.step.Event.TheVariants.{Startup};
 ghost use Rattle.events.specs.Result.{answer_of};

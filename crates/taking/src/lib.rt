@@ -1,4 +1,6 @@
 // What a record does that is taken.
+#![tactic(auto)]
+
 ghost use Rattle.std.specs.Prelude.{◌≡◌, [], ◌*◌, ◌+◌, ◌≤◌, length, get_or, set};
 ghost use Rattle.passing.specs.Passing.{fresh_room};
 ghost use Rattle.stations.specs.List.{started_at, shut_at, delivered_at, all_passed};

@@ -1,4 +1,6 @@
 // Text put into a lent buffer at a place: each function answers the place after what it put, or the buffer's end.
+#![tactic(auto)]
+
 ghost use Rattle.std.specs.Prelude.{◌≡◌, ◌∷◌, [], ◌<◌, min};
 ghost use Rattle.text.specs.Appended.{Appended};
 ghost use Rattle.text.specs.Digits.{decimal_of, dotted_of, address_of, hex_digit, hex_byte, hex_of, hex_or_dash};

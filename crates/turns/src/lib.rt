@@ -1,4 +1,6 @@
 // The next record of a script: taken, refused, or none.
+#![tactic(auto)]
+
 ghost use Rattle.std.specs.Prelude.{◌≡◌, [], ◌≤◌, length};
 ghost use Rattle.script.specs.Kinds.{body_length};
 ghost use Rattle.script.specs.Lines.{Printed};
@@ -12,7 +14,7 @@ use script::progress::Reading;
 use station::station::Station;
 use taking::reading_after;
 
-#[derive(Drop)]
+#[derive(Clone, Copy)]
 pub struct Turn {
     // unknown where no record is taken
     pub kind: Kind,

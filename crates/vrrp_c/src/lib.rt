@@ -1,4 +1,6 @@
 // The three calls for C (include/vrrp.h): thin over `judging` and `writing`, answering 0 or the refusal's number alone.
+#![tactic(auto)]
+
 ghost use Rattle.std.specs.Prelude.{◌≡◌};
 ghost use Rattle.judging.specs.Judging.{refusal_of};
 ghost use Rattle.writing.specs.Writing.{written_number};

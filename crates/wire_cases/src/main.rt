@@ -1,4 +1,6 @@
 // Hands cases to judging and writing, one binary record each on standard input, and prints a line for each answer.
+#![tactic(auto)]
+
 mod lines; // the line of each answer
 
 use crate::lines::{judged, written_in};
