@@ -5,4 +5,4 @@ use Rattle.hearing.proofs.count_number.Goals as goal
 
 pub returns : goal.returns
 unfolding counted_by
-returns c = rw c.wrapping_add_u32.ensures
+returns c = rw c.wrapping_add_u32.ensures.value

@@ -7,18 +7,12 @@ use Rattle.judging.proofs.judge.Goals as goal
 use Rattle.judging.proofs.judge.Goals.{Else-header-ne0, After-total_length-end}
 
 -- behind the first test the packet is readable
-readable_at : (c : Else-header-ne0) → Readable c.before.before.before.args.packet.now
+readable_at : (c : Else-header-ne0) → Readable c.args.packet.now
 readable_at c = header_passed _ (omega arith)
 
 -- once both lengths are read, they are the ends of its payload
-cut_at : (c : After-total_length-end)
-    → Cut c.before.before.before.before.before.args.packet.now c.before.header-length.result
-    c.total-length.result
+cut_at : (c : After-total_length-end) → Cut c.args.packet.now c.header_length-start.result c.total_length-end.result
 cut_at c = omega arith
-
--- from behind the second test back to these
-abbrev lengths : tie.Else2 → tie.After-total-length
-lengths c = c.before.before.before
 
 pub returns-then-header-ne0 : goal.returns-then-header-ne0
 returns-then-header-ne0 c = header_refuses _ _ c.header_refusal-header.ensures c.if-header-ne0.true
@@ -40,24 +34,24 @@ slice_bounds-payload-end c = omega (arith, readable_at (goal.at.slice_bounds-pay
 
 pub returns-then-message-ne0 : goal.returns-then-message-ne0
 returns-then-message-ne0 c =
-    cut_refuses _ _ _ (cut_at (goal.at.returns-then-message-ne0 c).After-total_length-end _ c.message_refusal-message.ensures c.if-message-ne0.true
+    cut_refuses _ _ _ (cut_at (goal.at.returns-then-message-ne0 c).After-total_length-end) _ c.message_refusal-message.ensures c.if-message-ne0.true
 
 pub bounds-packet-12 : goal.bounds-packet-12
-bounds-packet-12 c = omega (arith, readable_at (lengths c).before.before)
+bounds-packet-12 c = omega (arith, readable_at (goal.at.bounds-packet-12 c).Else-header-ne0)
 
 pub bounds-packet-13 : goal.bounds-packet-13
-bounds-packet-13 c = omega (arith, readable_at (lengths c).before.before)
+bounds-packet-13 c = omega (arith, readable_at (goal.at.bounds-packet-13 c).Else-header-ne0)
 
 pub bounds-packet-14 : goal.bounds-packet-14
-bounds-packet-14 c = omega (arith, readable_at (lengths c).before.before)
+bounds-packet-14 c = omega (arith, readable_at (goal.at.bounds-packet-14 c).Else-header-ne0)
 
 pub bounds-packet-15 : goal.bounds-packet-15
-bounds-packet-15 c = omega (arith, readable_at (lengths c).before.before)
+bounds-packet-15 c = omega (arith, readable_at (goal.at.bounds-packet-15 c).Else-header-ne0)
 
 pub read_fields-requires : goal.read_fields-requires
-read_fields-requires c = cut_holds _ _ _ (cut_at (lengths c)) (omega arith)
+read_fields-requires c = cut_holds _ _ _ (cut_at (goal.at.read_fields-requires c).After-total_length-end) (omega arith)
 
 pub returns : goal.returns
 returns c =
-    let cut = cut_at (lengths c) in
+    let cut = cut_at (goal.at.returns c).After-total_length-end in
     cut_accepts _ _ _ cut _ _ (omega arith) c.number-source.ensures c.read_fields.ensures

@@ -9,7 +9,7 @@ returns-then-state_number-eq1 c =
     let own = c.args.own_val in
     let counts =
     counts_of_backup own.state own.counts (sym c.state_number.ensures.number ∙ c.if-state_number-eq1.true) in
-    rw (counts, c.wrapping_add_u32.ensures)
+    rw (counts, c.wrapping_add_u32.ensures.value)
 
 pub returns-else-state_number-eq1 : goal.returns-else-state_number-eq1
 returns-else-state_number-eq1 c =

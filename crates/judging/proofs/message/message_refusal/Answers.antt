@@ -33,11 +33,8 @@ pub sum-requires : goal.sum-requires
 sum-requires c = omega (arith, slice_bounds-sum-end c, c.shared_slice_known-3-1.given 3)
 
 -- what was summed is the message
-sum_is : (c : After-sum)
-    → let at_fours = c in
-    let payload = at_fours.before.before.before.before.before.before.before.args.payload.now in
-    c.sum.result ≡ sum_of (take (message_length payload) payload)
-sum_is ⟦After-sum⟧ = rw (c.sum.ensures, c.fours-length.ensures)
+sum_is : (c : After-sum) → c.sum.result ≡ sum_of (take (message_length c.args.payload.now) c.args.payload.now)
+sum_is c = rw (c.sum.ensures, c.fours-length.ensures)
 
 pub returns-then-sum-ne65535 : goal.returns-then-sum-ne65535
 returns-then-sum-ne65535 c =

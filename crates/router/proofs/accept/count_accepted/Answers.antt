@@ -3,4 +3,4 @@
 use Rattle.router.proofs.accept.count_accepted.Goals as goal
 
 pub returns : goal.returns
-returns c = rw c.wrapping_add_u32.ensures
+returns c = rw c.wrapping_add_u32.ensures.value

@@ -1,12 +1,13 @@
 -- `states::step::turn` meets its contract: each arm is a row of the table.
 -- Assumes nothing.
-use Rattle.std.proofs.Common.{ap, ◌∙◌, ap₂, ⊎_elim, arith}
+use Rattle.std.proofs.Common.{ap, ◌∙◌, ap₂, arith}
 use Rattle.states.specs.Step.{heard_by_backup, heard_by_master}
 use Rattle.states.specs.Turn.{turn_of}
 use Rattle.states.proofs.Rows.{owner_starts, other_starts, stays_unlisted}
 use Rattle.states.proofs.Rows.{backup_stops, backup_fires, backup_hears_farewell, backup_hears_other}
 use Rattle.states.proofs.Rows.{master_stops, master_fires, master_hears_farewell, master_hears_other}
 use Rattle.states.proofs.step.turn.Goals as goal
+use Rattle.states.proofs.step.turn.Goals.{in_default-via-then-row-lt5120+else-row-lt255+then-row-lt4352, in_default-via-else-row-lt5120+then-row-lt8448, in_default-via-else-row-lt5120+else-row-lt8448+else-row-lt8704+else-row-lt8960+else-row-lt9216}
 
 pub returns-in-255 : goal.returns-in-255
 returns-in-255 c =
@@ -67,12 +68,13 @@ returns-in-8961-to-9214 c =
 
 pub returns-in_default : goal.returns-in_default
 returns-in_default c =
-    let a = c.args in
     c.no_change.ensures
     ∙ ap turn_of
-    (⊎_elim
-    (λ w. stays_unlisted a.primary a.r a.event (omega arith) (omega arith) (omega arith) (omega arith))
-    (⊎_elim
-    (λ w. stays_unlisted a.primary a.r a.event (omega arith) (omega arith) (omega arith) (omega arith))
-    (λ w. stays_unlisted a.primary a.r a.event (omega arith) (omega arith) (omega arith) (omega arith)))
-    c.if-row-lt5120.branch)
+    (elim c.in_default.branch [
+      | in_default-via-then-row-lt5120+else-row-lt255+then-row-lt4352 w ↦
+          stays_unlisted c.args.primary c.args.r c.args.event (omega arith) (omega arith) (omega arith) (omega arith)
+      | in_default-via-else-row-lt5120+then-row-lt8448 w ↦
+          stays_unlisted c.args.primary c.args.r c.args.event (omega arith) (omega arith) (omega arith) (omega arith)
+      | in_default-via-else-row-lt5120+else-row-lt8448+else-row-lt8704+else-row-lt8960+else-row-lt9216 w ↦
+          stays_unlisted c.args.primary c.args.r c.args.event (omega arith) (omega arith) (omega arith) (omega arith)
+    ])

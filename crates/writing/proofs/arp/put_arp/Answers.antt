@@ -10,4 +10,4 @@ returns c =
     let t = c.arp_tail-tail.ensures in
     let head = put_next c.arp_head-head.result 22 nothing c.put.ensures (omega arith) in
     let both = put_next c.arp_tail-tail.result 42 head c.put-2.ensures (omega arith) in
-    frame_stands both (arp_parts _ _ _ _ h.0 t.0)
+    frame_stands both (arp_parts _ _ _ _ h.bytes t.bytes)

@@ -21,4 +21,4 @@ returns c =
     let three = put_next c.message_head-message.result 42 two c.put-3.ensures (omega arith) in
     let four = put_next addresses (42 + length addresses) three c.put-4.ensures refl in
     let all = put_next (replicate 8 0) _ four c.put-5.ensures refl in
-    frame_stands all (frame_parts _ _ _ _ _ _ _ _ e.0 h.0 m.0)
+    frame_stands all (frame_parts _ _ _ _ _ _ _ _ e.bytes h.bytes m.bytes)
