@@ -5,7 +5,7 @@ use Rattle.configuring.specs.Configuring.{is_found}
 use Rattle.configuring.proofs.is_taken.Goals as goal
 
 pub returns-in-At : goal.returns-in-At
-returns-in-At c = sym (ap is_found c.enum_told-1.given.1) ∙ ap is_found c.find.ensures
+returns-in-At c = sym (ap is_found c.in-At.is) ∙ ap is_found c.find.ensures
 
 pub returns-in-Nothing : goal.returns-in-Nothing
-returns-in-Nothing c = sym (ap is_found c.enum_told-in-Nothing-1.given.1) ∙ ap is_found c.find.ensures
+returns-in-Nothing c = sym (ap is_found c.in-Nothing.is) ∙ ap is_found c.find.ensures

@@ -24,14 +24,14 @@ fill-requires c =
     let none = sym c.configure_refusal-refusal.ensures ∙ c.if-refusal-ne0.false in
     let most =
     configure_most a.words.now a.vrid a.priority a.interval a.addresses.now none in
-    let free = found a.words.now 0 _ (sym c.find.ensures ∙ c.place-1.given.1) in
+    let free = found a.words.now 0 _ (sym c.find.ensures ∙ c.in-At.is) in
     omega (arith, free.below)
 
 pub returns-in-At : goal.returns-in-At
 returns-in-At c =
     let a = c.args in
     let none = sym c.configure_refusal-refusal.ensures ∙ c.if-refusal-ne0.false in
-    let free = sym c.find.ensures ∙ c.place-1.given.1 in
+    let free = sym c.find.ensures ∙ c.in-At.is in
     configure_done a.words.now a.lists.now a.vrid a.priority a.interval a.preempt a.addresses.now _ _ _
     none free (c.fill.ensures.words ∙ rw (c.new_router-fresh.ensures, c.address_count.ensures)) c.fill.ensures.lists
 
@@ -40,4 +40,4 @@ returns-in-Nothing c =
     let a = c.args in
     let none = sym c.configure_refusal-refusal.ensures ∙ c.if-refusal-ne0.false in
     absurd (never_full a.words.now a.vrid a.priority a.interval a.addresses.now
-    none (sym c.find.ensures ∙ c.enum_told-1.given.1))
+    none (sym c.find.ensures ∙ c.in-Nothing.is))

@@ -8,19 +8,19 @@ use Rattle.events.proofs.happen.Goals as goal
 pub happen_at-requires : goal.happen_at-requires
 happen_at-requires c =
     let a = c.args in
-    let below = sought_below a.words.now a.vrid _ (sym c.seek.ensures ∙ c.place-1.given.1) in
+    let below = sought_below a.words.now a.vrid _ (sym c.seek.ensures ∙ c.in-At.is) in
     omega arith
 
 pub returns-in-At : goal.returns-in-At
 returns-in-At c =
     let a = c.args in
-    let sought = sym c.seek.ensures ∙ c.place-1.given.1 in
+    let sought = sym c.seek.ensures ∙ c.in-At.is in
     leaves_equal _ _ _ _ _ (happened a.words.now a.lists.now a.vrid _ a.event a.out.now sought)
     c.happen_at.ensures
 
 pub returns-in-Nothing : goal.returns-in-Nothing
 returns-in-Nothing c =
     let a = c.args in
-    let nowhere = sym c.seek.ensures ∙ c.enum_told-1.given.1 in
+    let nowhere = sym c.seek.ensures ∙ c.in-Nothing.is in
     leaves_equal _ _ _ _ _ (not_happened a.words.now a.lists.now a.vrid a.event a.out.now nowhere)
     (leaves_refused 20 _ _ (λ z. omega arith) (λ z. omega arith))

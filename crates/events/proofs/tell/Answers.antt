@@ -9,17 +9,17 @@ use Rattle.events.proofs.tell.Goals as goal
 pub load-requires : goal.load-requires
 load-requires c =
     let a = c.args in
-    let below = sought_below a.words.now a.vrid _ (sym c.seek.ensures ∙ c.place-1.given.1) in
+    let below = sought_below a.words.now a.vrid _ (sym c.seek.ensures ∙ c.in-At.is) in
     omega arith
 
 pub returns-in-At : goal.returns-in-At
 unfolding asked_of
 returns-in-At c =
-    let sought = sym c.seek.ensures ∙ c.place-1.given.1 in
+    let sought = sym c.seek.ensures ∙ c.in-At.is in
     record { status_is = rw (sought, c.load.ensures); proper = tt }
 
 pub returns-in-Nothing : goal.returns-in-Nothing
 unfolding asked_of
 returns-in-Nothing c =
-    let sought = sym c.seek.ensures ∙ c.enum_told-1.given.1 in
+    let sought = sym c.seek.ensures ∙ c.in-Nothing.is in
     record { status_is = rw sought; proper = λ z. omega arith }

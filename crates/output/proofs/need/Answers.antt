@@ -3,10 +3,10 @@
 use Rattle.output.proofs.need.Goals as goal
 
 pub returns-in-Advertisement : goal.returns-in-Advertisement
-returns-in-Advertisement c = rw c.enum_told-in-Advertisement-1.given.1
+returns-in-Advertisement c = rw c.in-Advertisement.is
 
 pub returns-in-Farewell : goal.returns-in-Farewell
-returns-in-Farewell c = rw c.enum_told-in-Farewell-1.given.1
+returns-in-Farewell c = rw c.in-Farewell.is
 
 pub returns-in-Takeover : goal.returns-in-Takeover
-returns-in-Takeover c = rw c.enum_told-in-Takeover-1.given.1
+returns-in-Takeover c = rw c.in-Takeover.is

@@ -16,19 +16,19 @@ use Rattle.output.proofs.put_output.Goals.{In-Takeover}
 
 pub put_advertisement-requires : goal.put_advertisement-requires
 put_advertisement-requires c =
-    let fits = rw c.enum_told-in-Advertisement-1.given.1 at c.requires.1 in
+    let fits = rw c.in-Advertisement.is at c.requires.list_in_bounds in
     omega arith
 
 pub put_advertisement-requires-in-Farewell : goal.put_advertisement-requires-in-Farewell
 put_advertisement-requires-in-Farewell c =
-    let fits = rw c.enum_told-in-Farewell-1.given.1 at c.requires.1 in
+    let fits = rw c.in-Farewell.is at c.requires.list_in_bounds in
     omega arith
 
 -- the room holds what a takeover writes
 takeover_fits : (c : In-Takeover)
     → need_of Takeover (length c.before.before.before.before.args.list.now)
     ≤ length c.before.before.before.before.args.room.now
-takeover_fits c = rw c.enum_told-in-Takeover-1.given.1 at c.requires.1
+takeover_fits c = rw c.in-Takeover.is at c.requires.list_in_bounds
 
 pub put_advertisement-requires-in-Takeover : goal.put_advertisement-requires-in-Takeover
 put_advertisement-requires-in-Takeover c =
@@ -44,17 +44,17 @@ pub put_arps-requires : goal.put_arps-requires
 put_arps-requires c = omega (arith, takeover_fits (goal.at.put_arps-requires c).In-Takeover)
 
 pub returns-in-Nothing : goal.returns-in-Nothing
-returns-in-Nothing c = rw c.enum_told-1.given.1
+returns-in-Nothing c = rw c.in-Nothing.is
 
 pub returns-in-Advertisement : goal.returns-in-Advertisement
-returns-in-Advertisement c = c.put_advertisement.ensures ∙ rw c.enum_told-in-Advertisement-1.given.1
+returns-in-Advertisement c = c.put_advertisement.ensures ∙ rw c.in-Advertisement.is
 
 pub returns-in-Farewell : goal.returns-in-Farewell
-returns-in-Farewell c = c.put_advertisement-in-Farewell.ensures ∙ rw c.enum_told-in-Farewell-1.given.1
+returns-in-Farewell c = c.put_advertisement-in-Farewell.ensures ∙ rw c.in-Farewell.is
 
 pub returns-in-Takeover : goal.returns-in-Takeover
 returns-in-Takeover c =
-    let told = c.enum_told-in-Takeover-1.given.1 in
+    let told = c.in-Takeover.is in
     let a = c.args in
     let r = a.r in
     let list = a.list.now in

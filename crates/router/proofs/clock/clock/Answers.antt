@@ -6,12 +6,12 @@ use Rattle.router.proofs.clock.clock.Goals as goal
 
 pub returns-in-Initialize : goal.returns-in-Initialize
 unfolding ticked_of
-returns-in-Initialize c = rw (c.stay.ensures, c.enum_told-1.given.1)
+returns-in-Initialize c = rw (c.stay.ensures, c.in-Initialize.is)
 
 pub returns-in-Backup : goal.returns-in-Backup
 unfolding ticked_of
-returns-in-Backup c = c.run.ensures ∙ rw c.enum_told-in-Backup-1.given.1
+returns-in-Backup c = c.run.ensures ∙ rw c.in-Backup.is
 
 pub returns-in-Master : goal.returns-in-Master
 unfolding ticked_of
-returns-in-Master c = c.run-in-Master.ensures ∙ rw c.enum_told-in-Master-1.given.1
+returns-in-Master c = c.run-in-Master.ensures ∙ rw c.in-Master.is

@@ -6,7 +6,7 @@ use Rattle.script.proofs.kinds.kind_of.Goals as goal
 
 pub returns-in-1 : goal.returns-in-1
 unfolding kind_of
-returns-in-1 c = rw c.in-1.keys1
+returns-in-1 c = rw c.in-1.is
 
 pub returns-in-2 : goal.returns-in-2
 unfolding kind_of
