@@ -1,7 +1,7 @@
 -- `configuring::configure_refusal` meets its contract: each check in turn.
 -- Assumes nothing.
 use mathlib.Core.Path.{sym, ◌∙◌}
-use borrow.Author.Tests.{eq-eqb, ne_eqb, not-true, not-false}
+use borrow.Author.Tests.{eq-eqb, ne_eqb}
 use Rattle.configuring.specs.Configuring.{configure_refusal}
 use Rattle.configuring.proofs.configure_refusal.Goals as goal
 
@@ -36,7 +36,7 @@ unfolding configure_refusal
 returns-then-not-is_taken c =
     let bytes = sym c.address_bytes_wrong.ensures ∙ c.if-address_bytes_wrong.false in
     let taken = sym c.is_taken.ensures ∙ c.if-is_taken.false in
-    let free = sym c.is_taken-2.ensures ∙ not-true _ c.if-not-is_taken.true in
+    let free = sym c.is_taken-2.ensures ∙ c.if-not-is_taken.true in
     simp (ne_eqb _ _ c.if-vrid-eq0.false, ne_eqb _ _ c.if-priority-eq0.false, ne_eqb _ _ c.if-interval-eq0.false, bytes, taken, free)
 
 pub returns : goal.returns
@@ -44,5 +44,5 @@ unfolding configure_refusal
 returns c =
     let bytes = sym c.address_bytes_wrong.ensures ∙ c.if-address_bytes_wrong.false in
     let taken = sym c.is_taken.ensures ∙ c.if-is_taken.false in
-    let free = sym c.is_taken-2.ensures ∙ not-false _ c.if-not-is_taken.false in
+    let free = sym c.is_taken-2.ensures ∙ c.if-not-is_taken.false in
     simp (ne_eqb _ _ c.if-vrid-eq0.false, ne_eqb _ _ c.if-priority-eq0.false, ne_eqb _ _ c.if-interval-eq0.false, bytes, taken, free)
