@@ -1,0 +1,26 @@
+-- `events::tick` meets its contract.
+-- Assumes nothing.
+use mathlib.Core.Path.{sym, ◌∙◌}
+use native.Mathlib.Omega.{arith}
+use Rattle.events.proofs.Sought.{sought_below, leaves_equal, leaves_refused, clocked, not_clocked}
+use Rattle.events.proofs.tick.Goals as goal
+
+pub tick_at-requires : goal.tick_at-requires
+tick_at-requires c =
+    let a = c.args in
+    let below = sought_below a.words.now a.vrid _ (sym c.seek.ensures ∙ c.in-At.is) in
+    omega arith
+
+pub returns-in-At : goal.returns-in-At
+returns-in-At c =
+    let a = c.args in
+    let sought = sym c.seek.ensures ∙ c.in-At.is in
+    leaves_equal _ _ _ _ _ (clocked a.words.now a.lists.now a.vrid _ a.ticks a.out.now sought)
+    c.tick_at.ensures
+
+pub returns-in-Nothing : goal.returns-in-Nothing
+returns-in-Nothing c =
+    let a = c.args in
+    let nowhere = sym c.seek.ensures ∙ c.in-Nothing.is in
+    leaves_equal _ _ _ _ _ (not_clocked a.words.now a.lists.now a.vrid a.ticks a.out.now nowhere)
+    (leaves_refused 20 _ _ (λ z. omega arith) (λ z. omega arith))

@@ -1,0 +1,12 @@
+-- `places::place::load` meets its contract.
+-- Assumes nothing.
+use Rattle.std.proofs.Common.{◌≡◌, ◌+◌, ◌-◌, ◌*◌, ◌∙◌, arith}
+use Rattle.places.specs.Place.{record_at}
+use Rattle.places.proofs.place.load.Goals as goal
+
+pub returns : goal.returns
+unfolding record_at
+returns c =
+    let place = c.args.place in
+    let e : 16 + 16 * place + 16 - (16 + 16 * place) ≡ 16 = omega arith in
+    c.decode.ensures ∙ rw e
