@@ -89,6 +89,8 @@ data Advertises : Writes → Type 0 where
 some_need : (w : Writes) (n : ℕ) → Advertises w → 50 + n ≤ need_of w n
 some_need Advertisement n alone = omega arith
 some_need Takeover n with_arps = omega arith
+some_need Nothing n other = elim other [ ]
+some_need Farewell n other = elim other [ ]
 
 most_need : (w : Writes) (n : ℕ) → n ≤ 64 → need_of w n ≤ room_bytes
 most_need Nothing n h = omega arith
@@ -109,6 +111,8 @@ first_bytes Advertisement r primary list alone =
 first_bytes Takeover r primary list with_arps =
     take_at (frame_of r.vrid r.priority r.interval primary list) (arps_of r.vrid list) (50 + length list)
     (frame_length r.vrid r.priority r.interval primary list)
+first_bytes Nothing r primary list other = elim other [ ]
+first_bytes Farewell r primary list other = elim other [ ]
 
 -- the outcome of a timer that runs
 module _ (primary : ℕ) (r : Router) where
@@ -239,6 +243,7 @@ module _ (s : Station) (long : length s.addresses ≡ 64) (named : ¬ (s.router.
 
   steady_passed : (times d : ℕ) → 0 < interval → d < times
       → passed_in times (after s) d ≡ with_timer (after s) (interval - d % interval)
+  steady_passed zero d some enough = elim enough [ ]
   steady_passed (suc times) d some enough =
       dite (dec_lt d interval)
       (λ h. falls_passed (after s) long named times d is_running h ∙ rw (mod-eq_of_lt h))

@@ -1,10 +1,3 @@
-pub mod Locals
 pub mod Placed
-pub mod Fetching
-pub mod Asking
-pub mod Rows
-pub mod Stepping
 pub mod Theorems
-pub mod Lending
-pub mod OnList
 pub mod Advancing

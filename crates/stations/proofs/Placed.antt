@@ -2,11 +2,10 @@
 use Prim.Native.Nat.{ℕ, ◌<◌, ◌≤◌}
 use native.Mathlib.Omega.{arith}
 use mathlib.Core.Path.{◌≡◌, refl, sym, ap, subst, ◌∙◌}
-use mathlib.Core.Bool.{Bool, true, false, not}
 use mathlib.Core.List.{List}
-use lib.Dec.{T, eqb}
 use lib.ListN.{length, get_or, set}
-use borrow.Author.Tests.{lt-ltb, le-ltb, eq-eqb, ne_eqb, eqb-true, ltb-true, not-false}
+use Rattle.std.proofs.lemmas.List.{get_or_default}
+use borrow.Author.Tests.{lt-ltb, le-ltb, eq-eqb, ne_eqb, ltb-true, not-false}
 use Rattle.wire.proofs.Checks.{passed}
 use Rattle.events.specs.declared.answer.Answered.TheVariants.{Refused}
 use Rattle.station.specs.declared.station.Station.{Station}
@@ -30,11 +29,15 @@ unchanged : (number : ℕ) (stations : List Station) (room : List ℕ)
 unchanged number stations room = record { answer_is = refl; stations_are = refl; room_is = refl }
 
 module _ (step : Station → List ℕ → Result) (stations : List Station) (at : ℕ) (room : List ℕ) where
-  pub within : at < length stations → (r : Stepped) (after : List ℕ)
-      → Leaves (step (get_or stations at nowhere) room) r after
+  -- whatever is read past the end of the list
+  pub within : at < length stations → (d : Station) (r : Stepped) (after : List ℕ)
+      → Leaves (step (get_or stations at d) room) r after
       → LeavesList (stepped_at step stations at room) r.answer (set stations at r.station) after
   unfolding stepped_at
-  within l r after e = simp (lt-ltb at (length stations) l) (stored _ stations at r after e)
+  within l d r after e =
+      simp (lt-ltb at (length stations) l)
+      (stored _ stations at r after
+      (subst (λ (s : Station). Leaves (step s room) r after) (get_or_default stations at d nowhere l) e))
 
   pub outside : length stations ≤ at → LeavesList (stepped_at step stations at room) (Refused 26) stations room
   unfolding stepped_at
@@ -67,31 +70,27 @@ module _ (from to count : ℕ) where
   unfolding delivery_refusal
   to_there e = ltb-true to count (not-false _ (passed (delivery_checks from to count) (omega arith) e).1.0)
 
--- the values of tests
-is_false : (b : Bool) → T (not b) → b ≡ false
-is_false true h = absurd h
-is_false false h = refl
-
-is_true : (b : Bool) → T (not (not b)) → b ≡ true
-is_true true h = refl
-is_true false h = absurd h
-
-pub nought : (number due : ℕ) → T (not (not (eqb number 0))) → number ≡ due → due ≡ 0
-nought number due h e = sym e ∙ eqb-true number 0 (is_true (eqb number 0) h)
-
 module _ (stations : List Station) (from to : ℕ) (room : List ℕ) where
   abbrev due : ℕ
   due = delivery_refusal from to (length stations)
 
-  pub delivered_within : due ≡ 0 → (r : Stepped) (after : List ℕ)
-      → Leaves (delivered_to (get_or stations from nowhere) (get_or stations to nowhere) room) r after
+  pub delivered_within : due ≡ 0 → (d : Station) (r : Stepped) (after : List ℕ)
+      → Leaves (delivered_to (get_or stations from d) (get_or stations to d) room) r after
       → LeavesList (delivered_at stations from to room) r.answer (set stations to r.station) after
   unfolding delivered_at
-  delivered_within e r after l = simp (eq-eqb due 0 e) (stored _ stations to r after l)
+  delivered_within e d r after l =
+      simp (eq-eqb due 0 e)
+      (stored _ stations to r after
+      (subst
+      (λ (a : Station). Leaves (delivered_to a (get_or stations to nowhere) room) r after)
+      (get_or_default stations from d nowhere (from_there from to (length stations) e))
+      (subst
+      (λ (b : Station). Leaves (delivered_to (get_or stations from d) b room) r after)
+      (get_or_default stations to d nowhere (to_there from to (length stations) e)) l)))
 
-  pub delivered_refused : (number : ℕ) → number ≡ due → T (not (eqb number 0))
+  pub delivered_refused : (number : ℕ) → number ≡ due → (number ≡ 0 → ⊥)
       → LeavesList (delivered_at stations from to room) (Refused number) stations room
   unfolding delivered_at
-  delivered_refused number e h =
-      subst (λ (n : ℕ). LeavesList (delivered_at stations from to room) (Refused n) stations room) (sym e)
-      (simp (is_false (eqb due 0) (subst (λ (n : ℕ). T (not (eqb n 0))) e h)) (unchanged due stations room))
+  delivered_refused number e n =
+      subst (λ (k : ℕ). LeavesList (delivered_at stations from to room) (Refused k) stations room) (sym e)
+      (simp (ne_eqb due 0 (λ z. n (e ∙ z))) (unchanged due stations room))

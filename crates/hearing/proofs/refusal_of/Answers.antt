@@ -3,13 +3,13 @@
 use Rattle.std.proofs.Common.{◌≡◌, ◌+◌, ◌-◌, ◌*◌, length, ◌∙◌, arith, rules}
 use Rattle.events.specs.Lists.{their_list}
 use Rattle.hearing.specs.Hearing.{refusal_by}
-use Rattle.station.proofs.Arrays.{array_long, part_is_list}
+use Rattle.station.proofs.Arrays.{part_is_list}
 use Rattle.hearing.proofs.refusal_of.Goals as goal
 
 pub slice_bounds-lists_match-end : goal.slice_bounds-lists_match-end
 slice_bounds-lists_match-end c =
     let long : length c.args.s.addresses ≡ 64 =
-    array_long c.args.s.addresses 64 c.well_formed.0.1.1.1.1.1.0.1.0.1 in
+    c.well_formed.0.1.1.1.1.1.0.1.0.1 in
     search rules
 
 pub returns : goal.returns

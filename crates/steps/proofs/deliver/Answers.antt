@@ -8,7 +8,7 @@ use borrow.Author.Tests.{eq-eqb, ne_eqb}
 use lib.ListN.{length}
 use Rattle.hearing.specs.Hearing.{heard_by}
 use Rattle.steps.specs.Steps.{delivered_to}
-use Rattle.station.proofs.Arrays.{array_long, part_is_packet}
+use Rattle.station.proofs.Arrays.{part_is_packet}
 use Rattle.station.proofs.Acted.{leaves_equal}
 use Rattle.steps.proofs.deliver.Goals as goal
 
@@ -21,14 +21,14 @@ returns-then-from-eq0 c =
 pub slice_bounds-hear-end : goal.slice_bounds-hear-end
 slice_bounds-hear-end c =
     let long : length c.args.from.frame ≡ 114 =
-    array_long c.args.from.frame 114 c.well_formed.0.1.1.1.1.1.1.0.1.0.1 in
+    c.well_formed.0.1.1.1.1.1.1.0.1.0.1 in
     search rules
 
 pub returns : goal.returns
 unfolding delivered_to
 returns c =
     let from = c.args.from in
-    let long = array_long from.frame 114 c.well_formed.0.1.1.1.1.1.1.0.1.0.1 in
+    let long = c.well_formed.0.1.1.1.1.1.1.0.1.0.1 in
     let some = ne_eqb _ _ c.if-from-eq0.false in
     let part = part_is_packet from _ _ long c.lesser-end.ensures.number c.lesser-start.ensures.number in
     leaves_equal _ _ (ap (λ (p : List ℕ). heard_by c.args.to p c.args.out.now) part ∙ rw some)

@@ -8,14 +8,14 @@ use borrow.Author.Rules.{rules}
 use lib.ListN.{length}
 use Rattle.output.specs.Output.{need_of}
 use Rattle.station.specs.Station.{list_of}
-use Rattle.station.proofs.Arrays.{array_long, part_is_list, list_length}
+use Rattle.station.proofs.Arrays.{part_is_list, list_length}
 use Rattle.station.proofs.Acted.{advertisement_fits, acted_short, acted_silent, acted_written}
 use Rattle.station.proofs.acting.act.Goals as goal
 
 pub slice_bounds-list-end : goal.slice_bounds-list-end
 slice_bounds-list-end c =
     let long : length c.args.s.addresses ≡ 64 =
-    array_long c.args.s.addresses 64 c.well_formed.0.1.1.1.1.1.0.1.0.1 in
+    c.well_formed.0.1.1.1.1.1.0.1.0.1 in
     search rules
 
 pub returns-then-out-needed : goal.returns-then-out-needed
@@ -38,7 +38,7 @@ slice_bounds-with_frame-end c =
     let a = c.args in
     let part = part_is_list a.s _ c.list_bytes-end.ensures.bytes in
     let need_is = c.need-needed.ensures ∙ ap (λ (l : List ℕ). need_of a.outcome.writes (length l)) part in
-    let long = array_long a.s.addresses 64 c.well_formed.0.1.1.1.1.1.0.1.0.1 in
+    let long = c.well_formed.0.1.1.1.1.1.0.1.0.1 in
     let least =
     advertisement_fits a.outcome.writes (length (list_of a.s)) (λ z. c.if-needed-eq0.false (need_is ∙ z)) in
     let fits : 50 + c.list_bytes-end.result ≤ c.need-needed.result = omega (arith, list_length a.s long) in
@@ -50,7 +50,7 @@ returns c =
     let a = c.args in
     let part = part_is_list a.s _ c.list_bytes-end.ensures.bytes in
     let need_is = c.need-needed.ensures ∙ ap (λ (l : List ℕ). need_of a.outcome.writes (length l)) part in
-    let long = array_long a.s.addresses 64 c.well_formed.0.1.1.1.1.1.0.1.0.1 in
+    let long = c.well_formed.0.1.1.1.1.1.0.1.0.1 in
     acted_written a.s a.outcome a.leftover a.out.now _ need_is _ _ c.if-out-needed.false
     (c.put_output.ensures ∙ rw part)
     (50 + c.list_bytes-end.result - 0)

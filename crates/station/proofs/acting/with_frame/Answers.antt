@@ -4,13 +4,12 @@ use mathlib.Core.Path.{◌≡◌, refl}
 use native.Mathlib.Omega.{arith}
 use lib.ListN.{length}
 use Rattle.writing.proofs.Pasting.{nothing, put_next}
-use Rattle.station.proofs.Arrays.{array_long}
 use Rattle.station.proofs.acting.with_frame.Goals as goal
 
 pub put-requires : goal.put-requires
 put-requires c =
     let long : length c.args.s.frame ≡ 114 =
-    array_long c.args.s.frame 114 c.well_formed.0.1.1.1.1.1.1.0.1.0.1 in
+    c.well_formed.0.1.1.1.1.1.1.0.1.0.1 in
     omega arith
 
 pub returns : goal.returns
