@@ -5,6 +5,8 @@ ghost use Rattle.std.specs.Prelude.{◌<◌, ◌≤◌};
 use lent::{clock_in, deliver_in, startup_in};
 use records::reading::{Head, least, number_at, read_head, word_at};
 use station::making::new_station;
+use std::io;
+use std::io::Read;
 use station::station::Station;
 
 #[derive(Clone, Copy)]
@@ -75,28 +77,28 @@ fn is_good(head: Head) -> bool {
 }
 
 // Reads the station of a number: priority, preempt, primary address, and how far it has come.
-fn read_station(segment: Segment, at: usize) -> Segment
+fn read_station<R: Read>(input: &mut R, segment: Segment, at: usize) -> io::Result<Segment>
     requires { at < 16 }
 {
-    let head = read_head(7);
+    let head = read_head(input, 7)?;
     let bytes = head.bytes;
     let all = segment.stations;
-    Segment {
+    Ok(Segment {
         stations: come_to(placed(all, at, station_of(bytes)), at, bytes[6]),
         good: segment.good & is_good(head),
-    }
+    })
 }
 
 // Reads the stations of a record that is to have so many, 1 to 16.
-pub fn read_stations(count: u8) -> Segment {
+pub fn read_stations<R: Read>(input: &mut R, count: u8) -> io::Result<Segment> {
     let mut segment = nobody(count);
     let end = used_of(count);
     let mut at = 0;
     while at < end {
-        segment = read_station(segment, at);
+        segment = read_station(input, segment, at)?;
         at += 1;
     }
-    segment
+    Ok(segment)
 }
 
 // The stations after the advertisement of one is handed to another.
@@ -106,28 +108,28 @@ fn handed(all: [Station; 16], from: u8, to: u8) -> [Station; 16] {
 }
 
 // Reads a delivery among so many stations, from and to, and hands the advertisement over.
-fn read_delivery(segment: Segment, count: u8) -> Segment {
-    let head = read_head(2);
+fn read_delivery<R: Read>(input: &mut R, segment: Segment, count: u8) -> io::Result<Segment> {
+    let head = read_head(input, 2)?;
     let from = head.bytes[0];
     let to = head.bytes[1];
     let all = segment.stations;
-    Segment {
+    Ok(Segment {
         stations: handed(all, from, to),
         good: segment.good & head.came & (from < count) & (to < count),
-    }
+    })
 }
 
 // Reads the deliveries among so many stations, and hands each advertisement over as it comes.
-pub fn hand_over(segment: Segment, count: u8) -> Segment {
-    let head = read_head(2);
+pub fn hand_over<R: Read>(input: &mut R, segment: Segment, count: u8) -> io::Result<Segment> {
+    let head = read_head(input, 2)?;
     let bytes = head.bytes;
     let deliveries = word_at(bytes, 0);
     let mut next = segment;
     let mut k = 0;
     while k < deliveries {
-        next = read_delivery(next, count);
+        next = read_delivery(input, next, count)?;
         k += 1;
     }
     next.good = next.good & head.came;
-    next
+    Ok(next)
 }

@@ -7,8 +7,9 @@ mod reasons; // what a refusal stands for
 use crate::accepted::announced;
 use crate::reasons::with_reason;
 use judging::{Judged, judge};
-use libc::STDIN_FILENO;
 use records::page::{Page, empty, with_byte, with_number, with_text, write};
+use records::reading::read_full;
+use std::io;
 
 // The line of a refusal.
 fn refused(number: u32) -> Page {
@@ -25,8 +26,9 @@ fn judged(packet: &[u8]) -> Page {
     }
 }
 
-fn main() {
-    let mut packet = io::large_buffer();
-    let given = io::read_full(STDIN_FILENO, &mut packet);
-    write(judged(&packet[..given]));
+fn main(rt: HostRuntime) -> io::Result<()> {
+    let mut packet = [0u8; 65536];
+    let given = read_full(&mut rt.stdin(), &mut packet)?;
+    write(&mut rt.stdout(), judged(&packet[..given]))?;
+    Ok(())
 }

@@ -1,4 +1,4 @@
-// What the test programs share: binary records on standard input, and text on standard output.
+// What the test programs share: binary records from an input, and text for an output.
 #![tactic(auto)]
 
 pub mod page; // what is printed

@@ -1,6 +1,7 @@
 // A page by value: what a program prints for a record. Each function answers the page with something more at its end.
 use crate::reading::first;
-use libc::STDOUT_FILENO;
+use std::io;
+use std::io::Write;
 use text::{put, put_address, put_byte, put_decimal, put_hex_or_dash, put_next};
 
 #[derive(Drop)]
@@ -93,16 +94,17 @@ pub fn with_hex(page: Page, shown: &[u8]) -> Page {
     }
 }
 
-// Writes the page, and answers whether that went well.
-pub fn write(page: Page) -> bool {
+// Writes the page, and answers that there may be a next record.
+pub fn write<W: Write>(output: &mut W, page: Page) -> io::Result<bool> {
     let bytes = page.bytes;
-    io::write_all(STDOUT_FILENO, first(&bytes, page.end))
+    output.write_all(first(&bytes, page.end))?;
+    Ok(true)
 }
 
 // Writes that a record is bad, where there was any; answers that there is no next.
-pub fn write_bad(any: bool) -> bool {
+pub fn write_bad<W: Write>(output: &mut W, any: bool) -> io::Result<bool> {
     if any {
-        io::write_all(STDOUT_FILENO, b"bad record\n");
+        output.write_all(b"bad record\n")?;
     }
-    false
+    Ok(false)
 }

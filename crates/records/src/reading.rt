@@ -1,7 +1,8 @@
-// Bytes as they come from standard input, and what is read off them.
-ghost use Rattle.std.specs.Prelude.{◌≤◌};
+// Bytes as they come from an input, and what is read off them.
+ghost use Rattle.std.specs.Prelude.{◌≤◌, IfOk, length};
 
-use libc::STDIN_FILENO;
+use std::io;
+use std::io::Read;
 use sums::number;
 use wire::reading::word;
 
@@ -25,9 +26,24 @@ pub fn behind(bytes: &[u8], from: usize) -> &[u8] {
     &bytes[start..]
 }
 
+// Reads until `part` is full or the input ends, and answers how many bytes came.
+pub fn read_full<R: Read>(input: &mut R, part: &mut [u8]) -> io::Result<usize>
+    ensures { IfOk result (λ n. n ≤ length part.new) }
+{
+    let mut done = 0;
+    while done < part.len() {
+        let more = input.read(&mut part[done..])?;
+        if more == 0 {
+            break;
+        }
+        done += more;
+    }
+    Ok(done)
+}
+
 // Fills `part`, and answers whether enough came.
-fn fill(part: &mut [u8]) -> bool {
-    io::read_full(STDIN_FILENO, part) == part.len()
+fn fill<R: Read>(input: &mut R, part: &mut [u8]) -> io::Result<bool> {
+    Ok(read_full(input, part)? == part.len())
 }
 
 // A few bytes, with zeros behind them.
@@ -39,14 +55,14 @@ pub struct Head {
 }
 
 // Reads so many bytes, at most 16.
-pub fn read_head(size: usize) -> Head {
+pub fn read_head<R: Read>(input: &mut R, size: usize) -> io::Result<Head> {
     let mut bytes = [0u8; 16];
     let end = least(size, 16);
-    let came = fill(&mut bytes[0..end]);
-    Head {
+    let came = fill(input, &mut bytes[0..end])?;
+    Ok(Head {
         bytes: bytes,
         came: came,
-    }
+    })
 }
 
 // The number in two bytes of a head, which stand no later than at 14.
@@ -75,12 +91,12 @@ pub struct Tail {
 }
 
 // Reads so many bytes, at most 65,536.
-pub fn read_tail(size: usize) -> Tail {
-    let mut bytes = io::large_buffer();
+pub fn read_tail<R: Read>(input: &mut R, size: usize) -> io::Result<Tail> {
+    let mut bytes = [0u8; 65536];
     let end = least(size, 65536);
-    let came = fill(&mut bytes[0..end]);
-    Tail {
+    let came = fill(input, &mut bytes[0..end])?;
+    Ok(Tail {
         bytes: bytes,
         came: came,
-    }
+    })
 }

@@ -3,6 +3,8 @@
 ghost use Rattle.std.specs.Prelude.{◌≤◌, ◌≡◌, length};
 
 use crate::reading::{read_head, read_tail, word_at};
+use std::io;
+use std::io::Read;
 
 // Where a head has the size of what its record is without: no head reaches to here, so that the size is 0.
 pub const ABSENT: usize = 14;
@@ -50,23 +52,23 @@ pub struct Record {
 }
 
 // Reads the kind of the next record.
-pub fn read_kind() -> Kind {
-    let head = read_head(1);
-    Kind {
+pub fn read_kind<R: Read>(input: &mut R) -> io::Result<Kind> {
+    let head = read_head(input, 1)?;
+    Ok(Kind {
         byte: head.bytes[0],
         came: head.came,
-    }
+    })
 }
 
 // Reads the rest of a record of this kind and shape. It is good if all of it came and the room has at most 1,023 bytes.
-pub fn read_record(kind: Kind, shape: Shape) -> Record {
-    let start = read_head(shape.head);
+pub fn read_record<R: Read>(input: &mut R, kind: Kind, shape: Shape) -> io::Result<Record> {
+    let start = read_head(input, shape.head)?;
     let head = start.bytes;
     let room = word_at(head, shape.room);
     let given = word_at(head, shape.tail);
-    let end = read_tail(given);
+    let end = read_tail(input, given)?;
     let tail = end.bytes;
-    Record {
+    Ok(Record {
         kind: kind.byte,
         head: head,
         tail: tail,
@@ -74,7 +76,7 @@ pub fn read_record(kind: Kind, shape: Shape) -> Record {
         room: room,
         any: kind.came,
         good: (0 < shape.head) & start.came & end.came & (room <= 1023),
-    }
+    })
 }
 
 // The largest room, all 0xA5, so that a byte that was left alone shows.

@@ -1,26 +1,28 @@
 // Rehearses a segment of stations from the script on standard input, and prints what comes of it.
 #![tactic(auto)]
 
-use libc::{STDIN_FILENO, STDOUT_FILENO};
+use records::reading::read_full;
 use rehearsal::{run, start};
+use std::io;
+use std::io::Write;
 
 // Runs the script to its end, or until what it prints cannot be written any more.
-fn rehearse(script: &[u8]) {
-    let mut out = io::large_buffer();
+fn rehearse<W: Write>(output: &mut W, script: &[u8]) -> io::Result<()> {
+    let mut out = [0u8; 65536];
     let mut now = start();
-    let mut going = true;
-    while going && !now.done {
+    while !now.done {
         let ran = run(script, now, &mut out);
         let next = ran.progress;
         let written = ran.written;
         now = next;
-        going = io::write_all(STDOUT_FILENO, &out[0..written]);
+        output.write_all(&out[0..written])?;
     }
+    Ok(())
 }
 
-fn main() {
+fn main(rt: HostRuntime) -> io::Result<()> {
     // a byte more than a script may have
     let mut script = [0u8; 65537];
-    let given = io::read_full(STDIN_FILENO, &mut script);
-    rehearse(&script[..given]);
+    let given = read_full(&mut rt.stdin(), &mut script)?;
+    rehearse(&mut rt.stdout(), &script[..given])
 }

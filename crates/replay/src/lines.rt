@@ -4,6 +4,8 @@ use records::page::{
     Page, empty, with_byte, with_hex, with_number, with_numbers, with_text, write,
 };
 use states::record::{Router, State};
+use std::io;
+use std::io::Write;
 use table::calls::{interface_count, question};
 
 // A page with the number that a call is answered by, the room needed and the leftover.
@@ -81,9 +83,15 @@ fn with_table(page: Page, words: &[u32; 4096], vrid: u8) -> Page {
     with_numbers(before, &interface(words))
 }
 
-// Writes the line of a call, with the router of the VRID, and answers whether that went well.
-pub fn write_call(answered: Answered, room: &[u8], words: &[u32; 4096], vrid: u8) -> bool {
+// Writes the line of a call, with the router of the VRID, and answers that there may be a next record.
+pub fn write_call<W: Write>(
+    output: &mut W,
+    answered: Answered,
+    room: &[u8],
+    words: &[u32; 4096],
+    vrid: u8,
+) -> io::Result<bool> {
     let before = with_hex(with_byte(ended(answered), b' '), room);
     let all = with_table(before, words, vrid);
-    write(with_byte(all, b'\n'))
+    write(output, with_byte(all, b'\n'))
 }

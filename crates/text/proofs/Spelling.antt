@@ -1,6 +1,6 @@
 -- Laws of the digits that `text` puts: a number in decimal by its last digit, bytes in hexadecimal by the last byte.
 -- Assumes nothing.
-use Prim.Native.Nat.{ℕ, suc, ◌+◌, ◌≤◌, ◌<◌, ◌/◌, ◌%◌}
+use Prim.Native.Nat.{ℕ, zero, suc, ◌+◌, ◌≤◌, ◌<◌, ◌/◌, ◌%◌}
 use mathlib.Core.Path.{◌≡◌, refl, ap, ◌∙◌}
 use mathlib.Core.List.{List, [], ◌∷◌, ◌++◌}
 use mathlib.Core.Logic.{dite}
@@ -14,6 +14,8 @@ use Rattle.text.specs.Digits.{digits, decimal_of, hex_byte, hex_of}
 -- any bound that is large enough gives the same digits
 digits_enough : (most more n : ℕ) → n < most → n < more → digits most n ≡ digits more n
 unfolding digits
+digits_enough zero more n h k = elim h [ ]
+digits_enough (suc most) zero n h k = elim k [ ]
 digits_enough (suc most) (suc more) n h k =
     dite
     (dec_lt n 10)

@@ -10,6 +10,8 @@ use records::reading::{first, number_at};
 use records::record::{
     ABSENT, Record, Shape, fresh_room, laid_out, read_kind, read_record, room_size,
 };
+use std::io;
+use std::io::{Read, Write};
 use writing::arp::write_arp;
 use writing::frame::write_advertisement;
 
@@ -49,7 +51,7 @@ fn answered(kind: u8, head: [u8; 16], given: &[u8], room: &mut [u8]) -> Page {
 }
 
 // Answers a record, and writes its line.
-fn answer_record(record: Record) -> bool {
+fn answer_record<W: Write>(output: &mut W, record: Record) -> io::Result<bool> {
     let head = record.head;
     let tail = record.tail;
     let mut room = fresh_room();
@@ -60,28 +62,29 @@ fn answer_record(record: Record) -> bool {
         first(&tail, record.given),
         &mut room[0..size],
     );
-    write(with_byte(page, b'\n'))
+    write(output, with_byte(page, b'\n'))
 }
 
 // Takes one record, and answers whether to go on to the next.
-fn take_record() -> bool {
-    let kind = read_kind();
-    let record = read_record(kind, shape_of(kind.byte));
+fn take_record<R: Read, W: Write>(input: &mut R, output: &mut W) -> io::Result<bool> {
+    let kind = read_kind(input)?;
+    let record = read_record(input, kind, shape_of(kind.byte))?;
     if record.good {
-        answer_record(record)
+        answer_record(output, record)
     } else {
-        write_bad(record.any)
+        write_bad(output, record.any)
     }
 }
 
 // Takes records to the end.
-fn run() {
+fn run<R: Read, W: Write>(input: &mut R, output: &mut W) -> io::Result<()> {
     let mut budget = u64::MAX;
     while 0 < budget {
-        budget = left(budget, take_record());
+        budget = left(budget, take_record(input, output)?);
     }
+    Ok(())
 }
 
-fn main() {
-    run();
+fn main(rt: HostRuntime) -> io::Result<()> {
+    run(&mut rt.stdin(), &mut rt.stdout())
 }

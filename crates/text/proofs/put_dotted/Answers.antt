@@ -1,0 +1,12 @@
+-- Four numbers and three dots, one after the other.
+use Rattle.text.specs.Digits.{dotted_of}
+use Rattle.text.proofs.Appending.{then}
+use Rattle.text.proofs.put_dotted.Goals as goal
+
+pub returns : goal.returns
+unfolding dotted_of
+returns c =
+    let one = then c.put_decimal-next.ensures c.put_byte-next.ensures in
+    let two = then (then one c.put_decimal-next-2.ensures) c.put_byte-next-2.ensures in
+    let three = then (then two c.put_decimal-next-3.ensures) c.put_byte-next-3.ensures in
+    then three c.put_decimal.ensures
