@@ -41,7 +41,7 @@ loop-k-preserved c =
       omega arith,
       omega arith,
       then_as
-          (letters_more loop.k c.args.t3 _ _ c.well_formed.1.1.0.1.0.1 room
+          (letters_more loop.k c.args.stations _ _ c.well_formed.1.1.0.1.0.1 room
           c.letter_of.ensures)
           loop.invariant.2
           c.put_byte-next-in-loop-k.ensures,
@@ -55,7 +55,7 @@ returns-else-k-lt16 c =
     let most = ltb-false c.loop-k.k 16 c.if-k-lt16.false in
     then_as
     (ap (λ (l : List ℕ). 32 ∷ l)
-    (letters_end c.loop-k.k c.args.used c.args.t3 c.well_formed.1.1.0.1.0.1 most
+    (letters_end c.loop-k.k c.args.used c.args.stations c.well_formed.1.1.0.1.0.1 most
     c.loop-k.invariant.0))
     c.put_byte-next.ensures
     c.loop-k.invariant.2
