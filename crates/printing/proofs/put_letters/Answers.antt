@@ -3,7 +3,6 @@
 use Prim.Native.Nat.{ℕ, ◌-◌}
 use mathlib.Core.Path.{◌≡◌, ap, ◌∙◌}
 use native.Mathlib.Omega.{arith}
-use borrow.Author.Tests.{ltb-true, ltb-false}
 use mathlib.Core.List.{List, ◌∷◌}
 use Rattle.text.proofs.Appending.{then_as}
 use Rattle.script.specs.Lines.{letters_of}
@@ -14,34 +13,15 @@ pub loop-k-init : goal.loop-k-init
 loop-k-init c =
     let first = c.put_byte-next.ensures in
     let a = c.args in
-    (omega arith, omega arith, rw (letters_none a.t3) (begins _ _ first.within))
-
-pub offset_bounds-stations-k : goal.offset_bounds-stations-k
-offset_bounds-stations-k c =
-    let room = ltb-true c.loop-k.k 16 c.if-k-lt16.true in
-    omega arith
-
-pub bounds-stations-k : goal.bounds-stations-k
-bounds-stations-k c = ltb-true c.loop-k.k 16 c.if-k-lt16.true
-
-pub overflow_add-k : goal.overflow_add-k
-overflow_add-k c =
-    let room = ltb-true c.loop-k.k 16 c.if-k-lt16.true in
-    omega arith
-
-pub loop-k-smaller : goal.loop-k-smaller
-loop-k-smaller c =
-    let room = ltb-true c.loop-k.k 16 c.if-k-lt16.true in
-    omega arith
+    (omega arith, omega arith, rw (letters_none a.stations) (begins _ _ first.within))
 
 pub loop-k-preserved : goal.loop-k-preserved
 loop-k-preserved c =
-    let loop = c.loop-k in
-    let room = ltb-true loop.k 16 c.if-k-lt16.true in (
+    let loop = c.loop-k in (
       omega arith,
       omega arith,
       then_as
-          (letters_more loop.k c.args.t3 _ _ c.well_formed.1.1.0.1.0.1 room
+          (letters_more loop.k c.args.stations _ _ c.well_formed.1.1.0.1.0.1 c.if-k-lt16.true
           c.letter_of.ensures)
           loop.invariant.2
           c.put_byte-next-in-loop-k.ensures,
@@ -52,10 +32,9 @@ shape_of-out-else-k-lt16 c = same_long c.loop-k.invariant.2 ∙ same_long c.put_
 
 pub returns-else-k-lt16 : goal.returns-else-k-lt16
 returns-else-k-lt16 c =
-    let most = ltb-false c.loop-k.k 16 c.if-k-lt16.false in
     then_as
     (ap (λ (l : List ℕ). 32 ∷ l)
-    (letters_end c.loop-k.k c.args.used c.args.t3 c.well_formed.1.1.0.1.0.1 most
+    (letters_end c.loop-k.k c.args.used c.args.stations c.well_formed.1.1.0.1.0.1 c.if-k-lt16.false
     c.loop-k.invariant.0))
     c.put_byte-next.ensures
     c.loop-k.invariant.2
@@ -68,6 +47,6 @@ returns-after-loop-k c =
     let a = c.args in
     let whole : a.used ≡ c.loop-k.k = omega arith in
     then_as
-    (ap (λ (n : ℕ). 32 ∷ letters_of n a.t3) whole)
+    (ap (λ (n : ℕ). 32 ∷ letters_of n a.stations) whole)
     c.put_byte-next.ensures
     c.loop-k.invariant.2

@@ -35,13 +35,13 @@ pub take-requires : goal.take-requires
 take-requires c =
     let a = c.args in
     let none = sym c.refusal_of-refusal.ensures ∙ c.if-refusal-ne0.false in
-    let segment = segment_of a.stations a.reading in (
-      (body_whole segment _ _ none, number_fits segment _ _ none),
-      (
+    let segment = segment_of a.stations a.reading in record {
+      kind_in_bounds = (body_whole segment _ _ none, number_fits segment _ _ none);
+      at_bound = (
         omega (arith, c.if-script-gt65536.false, c.if-at-script.false),
         omega (arith, c.if-script-gt65536.false, c.if-at-script.false, c.if-reading-at.false),
-      ),
-    )
+      );
+    }
 
 pub returns : goal.returns
 returns c =
