@@ -1,5 +1,5 @@
 # What the commands need of the machine; sourced by a script that has set root, the repository.
-# The library is x86-64 code: other machines take a cross compiler, and the emulator that comes with the toolchain.
+# The toolchain, and the programs and libraries that it builds, run on x86-64.
 
 out=$root/target/c
 updated=
@@ -19,38 +19,40 @@ need() {
     }
 }
 
-case $(uname -m) in
-x86_64)
-    emulator=
-    compiler=gcc
-    compiler_packages='gcc libc6-dev'
-    ;;
-*)
-    kit=$(dirname "$(dirname "$(readlink -f "$(command -v rt)")")")
-    emulator=$kit/on/$(uname -m)/toolchain/bin/qemu-x86_64
-    compiler=x86_64-linux-gnu-gcc
-    compiler_packages='gcc-x86-64-linux-gnu libc6-dev-amd64-cross'
-    ;;
-esac
+# program NAME: prints where the crate's program is, which is made where it is missing.
+program() {
+    [ -x "$root/crates/$1/out/$1" ] || make_program "$1" || return 1
+    echo "$root/crates/$1/out/$1"
+}
+
+# make_program NAME: proves and builds the crate's program. The toolchain runs it too, here on an empty input.
+make_program() {
+    (cd "$root/crates/$1" && rt run < /dev/null > /dev/null)
+}
 
 # library NAME: makes the crate's library where it is missing; programs are linked with it from here on.
 library() {
-    archive=$root/target/staticlib/lib$1.a
-    [ -f "$archive" ] || (cd "$root" && rt staticlib "$1" >&2)
+    archive=$root/crates/$1/out/lib$1.a
+    [ -f "$archive" ] || make_library "$1"
+}
+
+# make_library NAME: proves and builds the crate's library.
+make_library() {
+    (cd "$root/crates/$1" && rt lib >&2)
 }
 
 # build PROGRAM SOURCE...: compiles and links the sources with the library to the folder out.
 build() {
-    program=$1
+    made=$out/$1
     shift
-    need "$compiler" $compiler_packages
+    need gcc gcc libc6-dev
     mkdir -p "$out"
-    "$compiler" -O2 -Wall -Wextra -Werror -static -I "$root/include" -I "$root/bench" -o "$out/$program" "$@" "$archive"
+    gcc -O2 -Wall -Wextra -Werror -static -I "$root/include" -I "$root/bench" -o "$made" "$@" "$archive"
 }
 
 # run PROGRAM ARGUMENT...: runs a program of the folder out.
 run() {
-    program=$1
+    made=$out/$1
     shift
-    ${emulator:+"$emulator"} "$out/$program" "$@"
+    "$made" "$@"
 }

@@ -1,10 +1,9 @@
 #!/usr/bin/env python3
-"""rehearsal.py EMULATOR PROGRAM [--words] [SCRIPT]: runs the proved program `rehearse` on a script, for people.
+"""rehearsal.py PROGRAM [--words] [SCRIPT]: runs the proved program `rehearse` on a script, for people.
 
-EMULATOR is empty where the machine runs PROGRAM itself. SCRIPT, or standard input, is raw bytes or text: text where
-its first byte is white space or a printable character of ASCII, else raw. No such byte is a kind of record, so raw
-bytes that are taken for text would be refused by 23. In text `#` starts a comment that ends with the line, white space
-and `/` separate, and the rest is bytes in hex.
+SCRIPT, or standard input, is raw bytes or text: text where its first byte is white space or a printable character of
+ASCII, else raw. No such byte is a kind of record, so raw bytes that are taken for text would be refused by 23. In text
+`#` starts a comment that ends with the line, white space and `/` separate, and the rest is bytes in hex.
 
 Exit status: 0 rehearsed to the end, 1 refused, 2 no script could be read or the program failed.
 """
@@ -138,16 +137,15 @@ def rehearse(command, content, words):
     return 1
 
 
-def main(emulator, program, *arguments):
+def main(program, *arguments):
     parser = argparse.ArgumentParser(prog="rehearse", description="Rehearses a segment of VRRP stations.")
     parser.add_argument("--words", action="store_true", help="say the events in words, and mark two Masters at once")
     parser.add_argument("script", nargs="?", metavar="SCRIPT",
                         help="a file of raw bytes, or of hex with # comments; without it standard input is read")
     options = parser.parse_args(arguments)
-    command = [emulator, program] if emulator else [program]
     try:
         content = Path(options.script).read_bytes() if options.script else sys.stdin.buffer.read()
-        return rehearse(command, content, options.words)
+        return rehearse([program], content, options.words)
     except Failed as trouble:
         print(f"rehearse: {trouble}", file=sys.stderr)
         return 2

@@ -10,7 +10,7 @@ from collections import namedtuple
 from pathlib import Path
 
 HERE = Path(__file__).resolve().parent
-PROGRAM = HERE.parent.parent / "crates" / "wire_cases"  # `rt check` runs it on stdin and compares with stdout
+PROGRAM = HERE.parent.parent / "crates" / "wire_cases"  # `rt ci` runs it on stdin and compares with stdout
 sys.dont_write_bytecode = True
 sys.path.insert(0, str(HERE.parent))
 
