@@ -184,11 +184,11 @@ runs_left (stops t) = le_refl _
 runs_left {script} {text} {p} {q} {room} (goes t r) =
     le_trans (runs_left r) (le_of_lt (left_falls script p (two_passed p.done (ltb room 32) t).0))
 
-runs_fall : {script text : List ℕ} {p q : Progress} {room : ℕ} → Runs script p room text q → p.done ≡ false
-    → 32 ≤ room → left_of script q < left_of script p
-runs_fall {script} {text} {p} {q} {room} (stops t) d h =
+runs_fall : {script : List ℕ} {p : Progress} {room : ℕ} {text : List ℕ} {q : Progress} → Runs script p room text q
+    → p.done ≡ false → 32 ≤ room → left_of script q < left_of script p
+runs_fall {script} {p} {room} {text} {q} (stops t) d h =
     never (stops_at p room) t (rw (d, le-ltb room 32 h))
-runs_fall {script} {text} {p} {q} {room} (goes t r) d h = lt_of_le_of_lt (runs_left r) (left_falls script p d)
+runs_fall {script} {p} {room} {text} {q} (goes t r) d h = lt_of_le_of_lt (runs_left r) (left_falls script p d)
 
 pub run_falls : RunFalls
 run_falls script p before ran after leaves d h = runs_fall leaves.runs d h

@@ -8,7 +8,7 @@ use native.Mathlib.Nat.{sub-zero}
 use native.Mathlib.Omega.{arith}
 use lib.Dec.{eqb, ltb, leb}
 use lib.ListN.{length, drop, get_or, length-append, length-drop, length-take}
-use borrow.Author.Tests.{lt-ltb, le-ltb, leb-true, leb-false, not-false}
+use borrow.Author.Tests.{lt-ltb, le-ltb, leb-false, not-false}
 use borrow.Rule.Slice.PartMut.{mid_of, put_mid}
 use Rattle.writing.specs.Writing.{over}
 use Rattle.wire.proofs.Tested.{second_fails}
@@ -73,11 +73,11 @@ left_less script p next d e = rw e (left_falls script p (undone p.done d))
 
 -- whether a run stops, by the code's tests
 
-pub goes_on : (p : Progress) (room : ℕ) → not p.done ≡ true → leb 32 room ≡ true → stops_at p room ≡ false
-goes_on p room d t = rw (undone p.done d, le-ltb room 32 (leb-true 32 room t))
+pub goes_on : (p : Progress) (room : ℕ) → not p.done ≡ true → 32 ≤ room → stops_at p room ≡ false
+goes_on p room d t = rw (undone p.done d, le-ltb room 32 t)
 
-pub stops_short : (p : Progress) (room : ℕ) → leb 32 room ≡ false → stops_at p room ≡ true
-stops_short p room t = second_fails p.done (ltb room 32) (lt-ltb room 32 (leb-false 32 room t))
+pub stops_short : (p : Progress) (room : ℕ) → room < 32 → stops_at p room ≡ true
+stops_short p room t = second_fails p.done (ltb room 32) (lt-ltb room 32 t)
 
 pub stops_done : (p : Progress) (room : ℕ) → not p.done ≡ false → stops_at p room ≡ true
 stops_done p room d = rw (not-false p.done d)

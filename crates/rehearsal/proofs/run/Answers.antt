@@ -1,15 +1,14 @@
 -- `rehearsal::run` meets its contract.
 -- Assumes nothing.
 use mathlib.Core.Path.{ap}
-use mathlib.Core.Logic.{⊎_elim}
 use Prim.Native.Nat.{◌-◌, ◌≤◌}
 use native.Mathlib.Omega.{arith}
-use borrow.Author.Tests.{leb-true}
 use lib.ListN.{length}
 use Rattle.script.specs.Progress.{progress_of}
 use Rattle.rehearsal.proofs.Stepping.{begun, room_long, written_fits, mid_whole, more_fits, turn, stopped, left_less, goes_on, stops_short, stops_done, printed_as, leaves_from}
 use Rattle.rehearsal.proofs.Turned.{turn_within, turn_body, turn_progress, turn_line_lem}
 use Rattle.rehearsal.proofs.run.Goals as goal
+use Rattle.rehearsal.proofs.run.Goals.{then-loop-reading-test+else-out-written-ge32, else-loop-reading-test}
 
 pub loop-reading-init : goal.loop-reading-init
 loop-reading-init c = begun _ _ _
@@ -41,7 +40,6 @@ slice_bounds-put_turn-start c = written_fits c.loop-reading.invariant
 pub put_turn-written-requires : goal.put_turn-written-requires
 put_turn-written-requires c =
     let loop = c.loop-reading in
-    let room = leb-true 32 (length loop.out - loop.written) c.if-out-written-ge32.true in
     omega (arith, mid_whole loop.written loop.out (written_fits loop.invariant))
 
 pub overflow_add-written : goal.overflow_add-written
@@ -80,5 +78,7 @@ returns c =
     rw c.progress_of.ensures
     (leaves_from (ap (progress_of _) c.reading_of-reading.ensures)
     (stopped loop.invariant
-    (⊎_elim (λ short. stops_short here room short.1.left) (λ done. stops_done here room done.left)
-    c.loop-reading-test.branch)))
+    (elim c.loop-reading-test.branch [
+      | then-loop-reading-test+else-out-written-ge32 w ↦ stops_short here room w.if-out-written-ge32.false
+      | else-loop-reading-test w ↦ stops_done here room w.loop-reading-test.false
+    ])))
