@@ -1,6 +1,5 @@
 -- The theorems of this crate, as statements: each is proved under the same name in proofs/Theorems.antt.
 use Rattle.std.specs.Prelude.{◌≡◌, ℕ, ◌<◌, List, length, ◌≢◌}
-use Rattle.states.specs.declared.record.Counts.{Counts}
 use Rattle.states.specs.declared.record.Router.{Router}
 use Rattle.places.specs.Layout.{decode_of, encode_of, InRange}
 use Rattle.places.specs.Place.{record_at, set_record, set_event}

@@ -1,7 +1,6 @@
 -- `configuring::clear` meets its contract. The loop's invariant: the first k words are 0.
 -- Assumes nothing.
 use mathlib.Core.Path.{refl}
-use Prim.Native.Nat.{◌-◌}
 use native.Mathlib.Omega.{arith}
 use borrow.Author.Fill.{fill_none, fill_more}
 use lib.ListN.{length-set}

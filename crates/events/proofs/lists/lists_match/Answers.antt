@@ -1,7 +1,6 @@
 -- `events::lists::lists_match` meets its contract. The loop's invariant: what is left decides.
 -- Assumes nothing.
 use mathlib.Core.Path.{refl, sym, ◌∙◌}
-use Prim.Native.Nat.{◌-◌}
 use native.Mathlib.Omega.{arith}
 use Rattle.events.proofs.Matching.{lengths_differ, match_same, match_other, match_end}
 use Rattle.events.proofs.lists.lists_match.Goals as goal

@@ -1,6 +1,6 @@
 -- `places::place::find` meets its contract. The loop's invariant: what is found from here on is what is found at all.
 -- Assumes nothing.
-use Rattle.std.proofs.Common.{◌-◌, sym, refl, ◌∙◌, arith}
+use Rattle.std.proofs.Common.{sym, refl, ◌∙◌, arith}
 use Rattle.places.specs.Place.{place_of}
 use Rattle.places.proofs.Finding.{find_hit, find_miss, find_end}
 use Rattle.places.proofs.place.find.Goals as goal

@@ -1,6 +1,6 @@
 -- `places::place::put` meets its contract. The loop's invariant: the first k words are pasted.
 -- Assumes nothing.
-use Rattle.std.proofs.Common.{◌≡◌, ◌-◌, refl, ap, ◌∙◌, add-one, arith, length-set, rules}
+use Rattle.std.proofs.Common.{◌≡◌, refl, ap, ◌∙◌, add-one, arith, length-set, rules}
 use lib.Seq.{paste, paste-zero, paste-suc}
 use Rattle.places.proofs.place.put.Goals as goal
 
