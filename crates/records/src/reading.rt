@@ -1,5 +1,6 @@
 // Bytes as they come from an input, and what is read off them.
-ghost use Rattle.std.specs.Prelude.{◌≤◌, IfOk, length};
+ghost use Rattle.std.specs.Prelude.{◌≤◌, ◌<◌, IfOk, length, take};
+ghost use Rattle.std.specs.Io.KnownBytes.{Consumes, IsAtEnd};
 
 use std::io;
 use std::io::Read;
@@ -28,13 +29,15 @@ pub fn behind(bytes: &[u8], from: usize) -> &[u8] {
 
 // Reads until `part` is full or the input ends, and answers how many bytes came.
 pub fn read_full<R: Read>(input: &mut R, part: &mut [u8]) -> io::Result<usize>
-    ensures { IfOk result (λ n. n ≤ length part.new) }
+    ensures within { IfOk result (λ n. n ≤ length part.new) }
+    ensures bytes { IfOk result (λ n. Consumes (R.remaining input.old) (R.remaining input.new) (take n part.new)) }
+    ensures end { IfOk result (λ n. n < length part.new → IsAtEnd (R.remaining input.new)) }
 {
     let mut done = 0;
     while done < part.len() {
         let more = input.read(&mut part[done..])?;
         if more == 0 {
-            break;
+            return Ok(done);
         }
         done += more;
     }
