@@ -1,5 +1,5 @@
 // Bytes as they come from an input, and what is read off them.
-ghost use Rattle.std.specs.Prelude.{◌≤◌, ◌<◌, IfOk, length, take};
+ghost use Rattle.std.specs.Prelude.{◌≡◌, ◌≤◌, ◌<◌, IfOk, length, min, take, drop};
 ghost use Rattle.std.specs.Io.KnownBytes.{Consumes, IsAtEnd};
 
 use std::io;
@@ -11,18 +11,23 @@ use wire::reading::word;
 pub fn least(a: usize, b: usize) -> usize
     ensures upper_bound { result ≤ a }
     ensures upper_bound_2 { result ≤ b }
+    ensures value { result ≡ min a b }
 {
     if a < b { a } else { b }
 }
 
 // The first of the bytes: so many, or all where there are fewer.
-pub fn first(bytes: &[u8], size: usize) -> &[u8] {
+pub fn first(bytes: &[u8], size: usize) -> &[u8]
+    ensures { result.now ≡ take size bytes.now }
+{
     let end = least(size, bytes.len());
     &bytes[0..end]
 }
 
 // The bytes from a place on: none where there are fewer.
-pub fn behind(bytes: &[u8], from: usize) -> &[u8] {
+pub fn behind(bytes: &[u8], from: usize) -> &[u8]
+    ensures { result.now ≡ drop from bytes.now }
+{
     let start = least(from, bytes.len());
     &bytes[start..]
 }
