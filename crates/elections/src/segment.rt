@@ -5,9 +5,9 @@ ghost use Rattle.std.specs.Prelude.{◌<◌, ◌≤◌};
 use lent::{clock_in, deliver_in, startup_in};
 use records::reading::{Head, least, number_at, read_head, word_at};
 use station::making::new_station;
+use station::station::Station;
 use std::io;
 use std::io::Read;
-use station::station::Station;
 
 #[derive(Clone, Copy)]
 pub struct Segment {
