@@ -1,4 +1,7 @@
 // A page by value: what a program prints for a record. Each function answers the page with something more at its end.
+ghost use Rattle.std.specs.Prelude.{◌≡◌, take, true, false, IfOk, OnOk};
+ghost use Rattle.std.specs.Io.KnownBytes.{Appends};
+
 use crate::reading::first;
 use std::io;
 use std::io::Write;
@@ -95,14 +98,19 @@ pub fn with_hex(page: Page, shown: &[u8]) -> Page {
 }
 
 // Writes the page, and answers that there may be a next record.
-pub fn write<W: Write>(output: &mut W, page: Page) -> io::Result<bool> {
+pub fn write<W: Write>(output: &mut W, page: Page) -> io::Result<bool>
+    ensures written { OnOk result (Appends (W.contents output.old) (W.contents output.new) (take page.end page.bytes)) }
+    ensures next { IfOk result (λ goes_on. goes_on ≡ true) }
+{
     let bytes = page.bytes;
     output.write_all(first(&bytes, page.end))?;
     Ok(true)
 }
 
 // Writes that a record is bad, where there was any; answers that there is no next.
-pub fn write_bad<W: Write>(output: &mut W, any: bool) -> io::Result<bool> {
+pub fn write_bad<W: Write>(output: &mut W, any: bool) -> io::Result<bool>
+    ensures { IfOk result (λ goes_on. goes_on ≡ false) }
+{
     if any {
         output.write_all(b"bad record\n")?;
     }

@@ -1,5 +1,6 @@
 // Bytes as they come from an input, and what is read off them.
-ghost use Rattle.std.specs.Prelude.{◌≤◌, IfOk, length};
+ghost use Rattle.std.specs.Prelude.{◌≡◌, ◌≤◌, ◌<◌, IfOk, length, min, take, drop};
+ghost use Rattle.std.specs.Io.KnownBytes.{Consumes, IsAtEnd};
 
 use std::io;
 use std::io::Read;
@@ -10,31 +11,38 @@ use wire::reading::word;
 pub fn least(a: usize, b: usize) -> usize
     ensures upper_bound { result ≤ a }
     ensures upper_bound_2 { result ≤ b }
+    ensures value { result ≡ min a b }
 {
     if a < b { a } else { b }
 }
 
 // The first of the bytes: so many, or all where there are fewer.
-pub fn first(bytes: &[u8], size: usize) -> &[u8] {
+pub fn first(bytes: &[u8], size: usize) -> &[u8]
+    ensures { result.now ≡ take size bytes.now }
+{
     let end = least(size, bytes.len());
     &bytes[0..end]
 }
 
 // The bytes from a place on: none where there are fewer.
-pub fn behind(bytes: &[u8], from: usize) -> &[u8] {
+pub fn behind(bytes: &[u8], from: usize) -> &[u8]
+    ensures { result.now ≡ drop from bytes.now }
+{
     let start = least(from, bytes.len());
     &bytes[start..]
 }
 
 // Reads until `part` is full or the input ends, and answers how many bytes came.
 pub fn read_full<R: Read>(input: &mut R, part: &mut [u8]) -> io::Result<usize>
-    ensures { IfOk result (λ n. n ≤ length part.new) }
+    ensures within { IfOk result (λ n. n ≤ length part.new) }
+    ensures bytes { IfOk result (λ n. Consumes (R.remaining input.old) (R.remaining input.new) (take n part.new)) }
+    ensures end { IfOk result (λ n. n < length part.new → IsAtEnd (R.remaining input.new)) }
 {
     let mut done = 0;
     while done < part.len() {
         let more = input.read(&mut part[done..])?;
         if more == 0 {
-            break;
+            return Ok(done);
         }
         done += more;
     }
