@@ -111,7 +111,7 @@ module _ (script : List ℕ) (bytes : Bytes script) (taken : Taken script)
         short = short;
       }
 
-  -- .9 does not outrank.10
+  -- .9 does not outrank .10
   outranked : Outranks (at 0) (at 1) → ⊥
   outranked (inl p) = omega (arith, (both 0 (omega arith)).priority, (both 1 (omega arith)).priority)
   outranked (inr p) = omega (arith, p.1, (both 0 (omega arith)).primary, (both 1 (omega arith)).primary)

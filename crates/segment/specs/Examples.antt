@@ -104,5 +104,5 @@ pub record Needed : Type 0 where
   pub interval : exchanged nine (configured 0xC0A8010A 100 2 virtual_address taken_over) ≡ two_masters
   -- another address list: each refuses by 12
   pub list : exchanged nine (configured 0xC0A8010A 100 1 (192 ∷ (168 ∷ (1 ∷ (253 ∷ [])))) taken_over) ≡ two_masters
-  -- a delivery that is missing: .9 has not heard.10
+  -- a delivery that is missing: .9 has not heard .10
   pub missing : states_of (after_all 1 (nine ∷ (ten ∷ [])) (nine ∷ (ten ∷ [])) (deliver 0 1 ∷ [])) ≡ two_masters

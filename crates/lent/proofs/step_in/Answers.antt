@@ -3,7 +3,7 @@ use Rattle.std.proofs.Common.{◌≡◌, ℕ, List, sym, ap, ◌∙◌}
 use Rattle.events.specs.declared.answer.Answered.{Answered}
 use Rattle.station.specs.declared.station.Station.{Station}
 use Rattle.passing.specs.Passing.{fresh_room}
-use Rattle.stations.specs.List.{ListResult, LeavesList}
+use Rattle.stations.specs.List.{LeavesList}
 use Rattle.lent.specs.declared.Step.{Step}
 use Rattle.lent.specs.declared.Moved.{Moved}
 use Rattle.lent.specs.Lent.{stepped_by, moved_by}

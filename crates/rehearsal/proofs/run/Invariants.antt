@@ -1,6 +1,5 @@
 -- `rehearsal::run` meets its contract.
 -- Assumes nothing.
-use Prim.Native.Nat.{◌-◌}
 use Rattle.rehearsal.specs.Run.{left_of}
 use Rattle.script.specs.Progress.{progress_of}
 use Rattle.rehearsal.proofs.Stepping.{SoFar}

@@ -1,5 +1,5 @@
 -- `list::deliver` meets its contract: the delivery stands at the receiver's number, or the first refusal is answered.
-use Rattle.std.proofs.Common.{◌≡◌, ◌<◌, length, sym, ◌∙◌, arith, rules}
+use Rattle.std.proofs.Common.{◌≡◌, ◌<◌, length, sym, ◌∙◌, rules}
 use Rattle.stations.specs.List.{delivery_refusal}
 use Rattle.stations.proofs.Placed.{delivered_within, delivered_refused, from_there, to_there}
 use Rattle.stations.proofs.list.deliver.Goals as goal

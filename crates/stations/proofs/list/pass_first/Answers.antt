@@ -1,5 +1,5 @@
 -- `list::pass_first` meets its contract: one station more at each turn, until the end.
-use Rattle.std.proofs.Common.{◌≡◌, ◌<◌, length, min, ◌∙◌, sym, ap, arith}
+use Rattle.std.proofs.Common.{◌≡◌, length, min, ◌∙◌, sym, ap, arith}
 use Rattle.stations.specs.List.{all_passed}
 use Rattle.stations.proofs.Advancing.{none_yet, advanced, at_end}
 use Rattle.stations.proofs.list.pass_first.Goals as goal
