@@ -29,7 +29,10 @@ unfoldable pub set_event : List ℕ → ℕ → Router → List ℕ
 set_event words place r =
     set
     (set
-    (slice_set (slice_set words (base_of place + 4) (state_word (slice_index words (base_of place + 4)) r.state)) (base_of place + 5) r.timer)
+    (slice_set
+    (slice_set words (base_of place + 4) (state_word (slice_index words (base_of place + 4)) r.state))
+    (base_of place + 5)
+    r.timer)
     (base_of place + 7)
     r.counts.accepted)
     (base_of place + 8)

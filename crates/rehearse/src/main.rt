@@ -28,7 +28,8 @@ fn rehearse<W: Write>(output: &mut W, script: &[u8]) -> io::Result<()>
 
 // Rehearses the script that the input is, to its end: a longer one than a script may be is refused, however long it is.
 fn rehearse_input<R: Read, W: Write>(input: &mut R, output: &mut W) -> io::Result<()>
-    ensures { OnOk result (IfSome (R.remaining input.old) (λ script. Appends (W.contents output.old) (W.contents output.new) (rehearsal_of script))) }
+    ensures { OnOk result (IfSome (R.remaining input.old)
+        (λ script. Appends (W.contents output.old) (W.contents output.new) (rehearsal_of script))) }
 {
     // a byte more than a script may have
     let mut script = [0u8; 65537];

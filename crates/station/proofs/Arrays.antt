@@ -2,20 +2,16 @@
 -- Assumes nothing.
 use mathlib.Core.Path.{◌≡◌, refl, sym, ap, ◌∙◌}
 use mathlib.Core.Bool.{Bool, true, false, cond}
-use mathlib.Core.List.{List, [], ◌∷◌, map}
+use mathlib.Core.List.{List, [], ◌∷◌}
 use Prim.Native.Nat.{ℕ, zero, suc, ◌-◌, ◌*◌, ◌%◌, ◌≤◌, ◌<◌}
 use native.Mathlib.Nat.{mod-lt, sub-zero, zero-sub, suc-sub-suc}
 use native.Mathlib.Omega.{arith}
 use lib.Dec.{ltb}
-use lib.ListN.{length, take, drop, length-map, length-take, drop_of_length-le}
+use lib.ListN.{length, take, drop, length-take, drop_of_length-le}
 use lib.Seq.{length-take-le, take_all}
 use borrow.Author.Tests.{ltb-false}
 use Rattle.station.specs.declared.station.Station.{Station}
 use Rattle.station.specs.Station.{list_of, packet_of}
-
--- what owning a station says of an array in it
-pub array_long : (l : List ℕ) (n : ℕ) → length (map (λ (v : ℕ). v) l) ≡ n → length l ≡ n
-array_long l n e = sym (length-map l (λ (v : ℕ). v)) ∙ e
 
 -- the virtual addresses
 pub part_is_list : (s : Station) (end : ℕ) → end ≡ 4 * (s.router.count % 17)

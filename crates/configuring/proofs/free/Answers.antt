@@ -1,6 +1,6 @@
 -- `configuring::free` meets its contract: 20, 21, or the place is freed.
 -- Assumes nothing.
-use mathlib.Core.Path.{sym, ◌∙◌}
+use mathlib.Core.Path.{◌≡◌, sym, ◌∙◌}
 use native.Mathlib.Omega.{arith}
 use Rattle.events.proofs.Sought.{sought_below}
 use Rattle.configuring.proofs.Configures.{remove_unknown, remove_busy, remove_done}
@@ -16,7 +16,7 @@ pub returns-then-state_at-ne0 : goal.returns-then-state_at-ne0
 returns-then-state_at-ne0 c =
     let a = c.args in
     let sought = sym c.seek.ensures ∙ c.in-At.is in
-    remove_busy a.words.now a.vrid _ sought (λ z. c.if-state_at-ne0.true (c.state_at.ensures ∙ z))
+    remove_busy a.words.now a.vrid _ sought (λ z. let none = c.state_at.ensures ∙ z in omega arith)
 
 pub store-requires : goal.store-requires
 store-requires c =
@@ -29,7 +29,7 @@ returns-else-state_at-ne0 c =
     let a = c.args in
     let sought = sym c.seek.ensures ∙ c.in-At.is in
     remove_done a.words.now a.vrid _ _ sought
-    (sym c.state_at.ensures ∙ c.if-state_at-ne0.false)
+    (let none : c.state_at.result ≡ 0 = omega arith in sym c.state_at.ensures ∙ none)
     (c.store.ensures ∙ rw c.new_router.ensures)
 
 pub returns-in-Nothing : goal.returns-in-Nothing

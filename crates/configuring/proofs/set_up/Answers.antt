@@ -10,7 +10,7 @@ pub returns-then-refusal-ne0 : goal.returns-then-refusal-ne0
 returns-then-refusal-ne0 c =
     let a = c.args in
     configure_refused a.words.now a.lists.now a.vrid a.priority a.interval a.preempt a.addresses.now _
-    c.configure_refusal-refusal.ensures c.if-refusal-ne0.true
+    c.configure_refusal-refusal.ensures (λ e. omega arith)
 
 pub address_count-requires : goal.address_count-requires
 address_count-requires c =

@@ -34,7 +34,7 @@ slice_bounds-payload-end c = omega (arith, readable_at (goal.at.slice_bounds-pay
 
 pub returns-then-message-ne0 : goal.returns-then-message-ne0
 returns-then-message-ne0 c =
-    cut_refuses _ _ _ (cut_at (goal.at.returns-then-message-ne0 c).After-total_length-end) _ c.message_refusal-message.ensures c.if-message-ne0.true
+    cut_refuses _ _ _ (cut_at (goal.at.returns-then-message-ne0 c).After-total_length-end) _ c.message_refusal-message.ensures (λ e. omega arith)
 
 pub bounds-packet-12 : goal.bounds-packet-12
 bounds-packet-12 c = omega (arith, readable_at (goal.at.bounds-packet-12 c).Else-header-ne0)

@@ -10,14 +10,14 @@ pub count_at_place-requires : goal.count_at_place-requires
 count_at_place-requires c =
     let a = c.args in
     let range = refused_range a.words.now a.lists.now a.packet.now a.place a.fields _
-    c.refusal_at-refusal.ensures c.if-refusal-ne0.true in
+    c.refusal_at-refusal.ensures (λ e. omega arith) in
     omega (arith, range)
 
 pub returns-then-refusal-ne0 : goal.returns-then-refusal-ne0
 returns-then-refusal-ne0 c =
     let a = c.args in
     heard_refused a.words.now a.lists.now a.packet.now a.place a.fields a.out.now _ _
-    c.refusal_at-refusal.ensures c.if-refusal-ne0.true c.count_at_place.ensures
+    c.refusal_at-refusal.ensures (λ e. omega arith) c.count_at_place.ensures
 
 pub returns : goal.returns
 returns c =

@@ -24,7 +24,7 @@ returns-then-out-needed c =
     acted_short a.words.now a.lists.now a.place o a.leftover a.out.now _
     (need_is a.words.now a.lists.now a.place a.heard a.turn _ _ (omega arith) (omega arith)
     c.load-own.ensures c.need-needed.ensures)
-    c.if-out-needed.true
+    (omega arith)
 
 pub put_output-requires : goal.put_output-requires
 put_output-requires c =
@@ -40,7 +40,7 @@ returns c =
     acted_done a.words.now a.lists.now a.place o a.leftover a.out.now _
     (need_is a.words.now a.lists.now a.place a.heard a.turn _ _ (omega arith) (omega arith)
     c.load-own.ensures c.need-needed.ensures)
-    _ _ c.if-out-needed.false c.change.ensures
+    _ _ (omega arith) c.change.ensures
     (c.put_output.ensures
     ∙ output_is a.words.now a.lists.now a.place a.heard a.turn _ a.out.now _ c.load-own.ensures
     c.primary.ensures)

@@ -6,7 +6,7 @@ use Rattle.events.proofs.Matching.{lengths_differ, match_same, match_other, matc
 use Rattle.events.proofs.lists.lists_match.Goals as goal
 
 pub returns-then-ours-theirs : goal.returns-then-ours-theirs
-returns-then-ours-theirs c = sym (lengths_differ c.args.ours.now c.args.theirs.now c.if-ours-theirs.true)
+returns-then-ours-theirs c = sym (lengths_differ c.args.ours.now c.args.theirs.now (λ e. omega arith))
 
 pub loop-k-init : goal.loop-k-init
 loop-k-init c = (omega arith, c.if-ours-theirs.false, refl)

@@ -23,14 +23,14 @@ returns-then-out-needed c =
     let a = c.args in
     let part = part_is_list a.s _ c.list_bytes-end.ensures.bytes in
     let need_is = c.need-needed.ensures ∙ ap (λ (l : List ℕ). need_of a.outcome.writes (length l)) part in
-    acted_short a.s a.outcome a.leftover a.out.now _ need_is c.if-out-needed.true
+    acted_short a.s a.outcome a.leftover a.out.now _ need_is (omega arith)
 
 pub returns-then-needed-eq0 : goal.returns-then-needed-eq0
 returns-then-needed-eq0 c =
     let a = c.args in
     let part = part_is_list a.s _ c.list_bytes-end.ensures.bytes in
     let need_is = c.need-needed.ensures ∙ ap (λ (l : List ℕ). need_of a.outcome.writes (length l)) part in
-    acted_silent a.s a.outcome a.leftover a.out.now _ need_is _ _ c.if-out-needed.false
+    acted_silent a.s a.outcome a.leftover a.out.now _ need_is _ _ (omega arith)
     (c.put_output.ensures ∙ rw part) c.if-needed-eq0.true c.with_router-after.ensures
 
 pub slice_bounds-with_frame-end : goal.slice_bounds-with_frame-end
@@ -42,7 +42,7 @@ slice_bounds-with_frame-end c =
     let least =
     advertisement_fits a.outcome.writes (length (list_of a.s)) (λ z. c.if-needed-eq0.false (need_is ∙ z)) in
     let fits : 50 + c.list_bytes-end.result ≤ c.need-needed.result = omega (arith, list_length a.s long) in
-    let holds = c.if-out-needed.false in
+    let holds : c.need-needed.result ≤ length a.out.now = omega arith in
     search rules
 
 pub returns : goal.returns
@@ -51,7 +51,7 @@ returns c =
     let part = part_is_list a.s _ c.list_bytes-end.ensures.bytes in
     let need_is = c.need-needed.ensures ∙ ap (λ (l : List ℕ). need_of a.outcome.writes (length l)) part in
     let long = c.well_formed.0.1.1.1.1.1.0.1.0.1 in
-    acted_written a.s a.outcome a.leftover a.out.now _ need_is _ _ c.if-out-needed.false
+    acted_written a.s a.outcome a.leftover a.out.now _ need_is _ _ (omega arith)
     (c.put_output.ensures ∙ rw part)
     (50 + c.list_bytes-end.result - 0)
     (omega (arith, list_length a.s long))
