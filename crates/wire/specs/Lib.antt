@@ -1,3 +1,4 @@
 pub mod Check
 pub mod Reading
+pub mod Refusal
 pub mod Theorems
