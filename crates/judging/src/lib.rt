@@ -11,7 +11,6 @@ ghost use Rattle.headers.specs.Packet.{header_checks, payload};
 
 use crate::message::message_refusal;
 use headers::{header_length, header_refusal, total_length};
-use sums::number;
 use wire::refusal::Refusal;
 
 // What a packet that passes refusals 1 to 8 says.
@@ -37,13 +36,13 @@ fn read_fields(source: u32, message: &[u8], list: usize) -> Fields
     ensures { result ≡ fields_in source message.now list }
 {
     Fields {
-        source: source,
+        source,
         vrid: message[1],
         priority: message[2],
         count: message[3],
         authentication: message[4],
         interval: message[5],
-        list: list,
+        list,
     }
 }
 
@@ -64,6 +63,6 @@ pub fn judge(packet: &[u8]) -> Result<Fields, Refusal>
     header_refusal(packet)?;
     let message = payload(packet);
     message_refusal(message)?;
-    let source = number(packet[12], packet[13], packet[14], packet[15]);
+    let source = u32::from_be_bytes([packet[12], packet[13], packet[14], packet[15]]);
     Ok(read_fields(source, message, header_length(packet) + 8))
 }
