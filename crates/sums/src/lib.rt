@@ -3,7 +3,7 @@
 
 ghost use Rattle.std.specs.Prelude.{◌≡◌, ◌*◌, ◌/◌, ◌%◌, ◌^◌, ◌<◌, ◌≤◌, length, sum_by};
 ghost use Rattle.std.specs.Int.{from_be_bytes, w32};
-ghost use Rattle.sums.specs.Sum.{sum_of};
+ghost use Rattle.sums.specs.Sum.{sum_of, Bytes};
 ghost use Rattle.sums.specs.Number.{number_of};
 ghost use Rattle.sums.specs.Total.{total, folded};
 
@@ -31,6 +31,8 @@ pub fn plain_total(bytes: &[u8]) -> u64
     requires { (length bytes.now % 4 ≡ 0) × (length bytes.now ≤ 65536) }
     ensures sum { result ≡ total bytes.now }
     ensures bound { result ≤ 4294967295 * (length bytes.now / 4) }
+    // as its type says, for callers whose laws ask it
+    ensures bytes { Bytes bytes.now }
 {
     let (numbers, _) = bytes.as_chunks::<4>();
     numbers_sum(numbers)
@@ -38,19 +40,18 @@ pub fn plain_total(bytes: &[u8]) -> u64
 
 // A plain sum with its carries put back in at the bottom: a one's complement sum, 65535 and never 0 where the plain sum is not 0.
 #[tactic(auto, using(crate::proofs::Folding::folded_zero, crate::proofs::Folding::folded_positive))]
-pub fn fold(plain: u64) -> u32
-    ensures sum { result ≡ folded plain }
-    ensures bound { result ≤ 65535 }
+pub fn fold(plain: u64) -> u16
+    ensures { result ≡ folded plain }
 {
     if plain == 0 {
         return 0;
     }
-    ((plain - 1) % 65535 + 1) as u32
+    ((plain - 1) % 65535 + 1) as u16
 }
 
 // The one's complement sum of the bytes.
 #[tactic(auto, using(crate::proofs::Laws::sum_folded))]
-pub fn sum(bytes: &[u8]) -> u32
+pub fn sum(bytes: &[u8]) -> u16
     requires { (length bytes.now % 4 ≡ 0) × (length bytes.now ≤ 65536) }
     ensures { result ≡ sum_of bytes.now }
 {
