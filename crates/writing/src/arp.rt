@@ -34,10 +34,8 @@ pub fn put_arp(vrid: u8, address: u32, room: &mut [u8])
     requires { 42 ≤ length room.old }
     ensures { room.new ≡ over (arp_of vrid address) room.old }
 {
-    let head = arp_head(vrid);
-    let tail = arp_tail(vrid, address);
-    put(room, 0, &head);
-    put(room, 22, &tail)
+    put(room, 0, &arp_head(vrid));
+    put(room, 22, &arp_tail(vrid, address))
 }
 
 // The first of refusals 14 and 22 of writing one ARP frame that holds.
