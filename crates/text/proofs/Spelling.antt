@@ -9,7 +9,9 @@ use native.Mathlib.Omega.{arith}
 use lib.ListN.{length, take, get_or}
 use lib.Seq.{take-suc}
 use borrow.Author.Tests.{lt-ltb, le-ltb}
-use Rattle.text.specs.Digits.{digits, decimal_of, hex_byte, hex_of}
+use Rattle.std.specs.Int.{to_be_bytes}
+use Rattle.std.proofs.Common.{w32}
+use Rattle.text.specs.Digits.{digits, decimal_of, dotted_of, address_of, hex_byte, hex_of}
 
 -- any bound that is large enough gives the same digits
 digits_enough : (most more n : ℕ) → n < most → n < more → digits most n ≡ digits more n
@@ -45,3 +47,14 @@ pub hex_more : (bytes : List ℕ) (k : ℕ) → k < length bytes
     → hex_of (take (suc k) bytes) ≡ hex_of (take k bytes) ++ hex_byte (get_or bytes k 0)
 unfolding hex_of
 hex_more bytes k h = ap hex_of (take-suc bytes k 0 h) ∙ hex_append (take k bytes) (get_or bytes k 0 ∷ [])
+
+-- the four bytes of an address
+pub address_bytes : (n a b c d : ℕ) (bytes : List ℕ) → n < 4294967296 → bytes ≡ to_be_bytes w32 n
+    → a ≡ get_or bytes 0 0 → b ≡ get_or bytes 1 0 → c ≡ get_or bytes 2 0 → d ≡ get_or bytes 3 0
+    → address_of n ≡ dotted_of a b c d
+address_bytes n a b c d bytes small e p q r s =
+    let first : a ≡ n / 16777216 = omega (arith, rw e at p) in
+    let second : b ≡ n / 65536 % 256 = rw e at q in
+    let third : c ≡ n / 256 % 256 = rw e at r in
+    let fourth : d ≡ n % 256 = rw e at s in
+    rw (first, second, third, fourth)
