@@ -1,35 +1,30 @@
-// Bytes as they come from an input, and what is read off them.
-ghost use Rattle.std.specs.Prelude.{◌≡◌, ◌≤◌, ◌<◌, IfOk, length, min, take, drop};
+// Bytes as they come from an input, and the numbers and rooms of records.
+ghost use Rattle.std.specs.Prelude.{◌≤◌, ◌<◌, IfOk, length, take};
 ghost use Rattle.std.specs.Io.KnownBytes.{Consumes, IsAtEnd};
 
+use std::alloc::{AllocError, Global};
 use std::io;
 use std::io::Read;
-use sums::number;
-use wire::reading::word;
 
-// The smaller of two numbers.
-pub fn least(a: usize, b: usize) -> usize
-    ensures upper_bound { result ≤ a }
-    ensures upper_bound_2 { result ≤ b }
-    ensures value { result ≡ min a b }
-{
-    if a < b { a } else { b }
+// Why a record is not answered.
+#[derive(Debug, Drop)]
+pub enum Fault {
+    // it is cut off or of no kind, or one of its fields is out of range
+    BadRecord,
+    // the input or the memory failed
+    Failed(io::Error),
 }
 
-// The first of the bytes: so many, or all where there are fewer.
-pub fn first(bytes: &[u8], size: usize) -> &[u8]
-    ensures { result.now ≡ take size bytes.now }
-{
-    let end = least(size, bytes.len());
-    &bytes[0..end]
+impl From<io::Error> for Fault {
+    fn from(error: io::Error) -> Fault {
+        Fault::Failed(error)
+    }
 }
 
-// The bytes from a place on: none where there are fewer.
-pub fn behind(bytes: &[u8], from: usize) -> &[u8]
-    ensures { result.now ≡ drop from bytes.now }
-{
-    let start = least(from, bytes.len());
-    &bytes[start..]
+impl From<AllocError> for Fault {
+    fn from(error: AllocError) -> Fault {
+        Fault::Failed(io::Error::from(error))
+    }
 }
 
 // Reads until `part` is full or the input ends, and answers how many bytes came.
@@ -49,62 +44,41 @@ pub fn read_full<R: Read>(input: &mut R, part: &mut [u8]) -> io::Result<usize>
     Ok(done)
 }
 
-// Fills `part`, and answers whether enough came.
-fn fill<R: Read>(input: &mut R, part: &mut [u8]) -> io::Result<bool> {
-    Ok(read_full(input, part)? == part.len())
+// Reads a part of a record.
+pub fn read_part<R: Read, const N: usize>(input: &mut R) -> Result<[u8; N], Fault> {
+    let mut part = [0; N];
+    if read_full(input, &mut part)? < N {
+        return Err(Fault::BadRecord);
+    }
+    Ok(part)
 }
 
-// A few bytes, with zeros behind them.
-#[derive(Drop)]
-pub struct Head {
-    pub bytes: [u8; 16],
-    // whether all of them came
-    pub came: bool,
+pub fn read_u8<R: Read>(input: &mut R) -> Result<u8, Fault> {
+    Ok(u8::from_be_bytes(read_part(input)?))
 }
 
-// Reads so many bytes, at most 16.
-pub fn read_head<R: Read>(input: &mut R, size: usize) -> io::Result<Head> {
-    let mut bytes = [0u8; 16];
-    let end = least(size, 16);
-    let came = fill(input, &mut bytes[0..end])?;
-    Ok(Head {
-        bytes: bytes,
-        came: came,
-    })
+pub fn read_u16<R: Read>(input: &mut R) -> Result<u16, Fault> {
+    Ok(u16::from_be_bytes(read_part(input)?))
 }
 
-// The number in two bytes of a head, which stand no later than at 14.
-pub fn word_at(head: [u8; 16], at: usize) -> usize {
-    let high = least(at, 14);
-    word(head[high], head[high + 1])
+pub fn read_u32<R: Read>(input: &mut R) -> Result<u32, Fault> {
+    Ok(u32::from_be_bytes(read_part(input)?))
 }
 
-// The number in four bytes of a head, which stand no later than at 12.
-pub fn number_at(head: [u8; 16], at: usize) -> u32 {
-    let start = least(at, 12);
-    number(
-        head[start],
-        head[start + 1],
-        head[start + 2],
-        head[start + 3],
-    )
+// Reads so many bytes.
+pub fn read_bytes<R: Read>(alloc: Global, input: &mut R, size: u16) -> Result<Vec<u8>, Fault> {
+    let mut bytes = vec![in alloc; 0; usize::from(size)]?;
+    if read_full(input, &mut bytes)? < bytes.len() {
+        return Err(Fault::BadRecord);
+    }
+    Ok(bytes)
 }
 
-// Many bytes, with zeros behind them.
-#[derive(Drop)]
-pub struct Tail {
-    pub bytes: [u8; 65536],
-    // whether all of them came
-    pub came: bool,
-}
-
-// Reads so many bytes, at most 65,536.
-pub fn read_tail<R: Read>(input: &mut R, size: usize) -> io::Result<Tail> {
-    let mut bytes = [0u8; 65536];
-    let end = least(size, 65536);
-    let came = fill(input, &mut bytes[0..end])?;
-    Ok(Tail {
-        bytes: bytes,
-        came: came,
-    })
+// Reads the size of a room, at most 1,023 bytes. The room is all 0xA5, so that a byte that was left alone shows.
+pub fn read_room<R: Read>(alloc: Global, input: &mut R) -> Result<Vec<u8>, Fault> {
+    let size = read_u16(input)?;
+    if size > 1023 {
+        return Err(Fault::BadRecord);
+    }
+    Ok(vec![in alloc; 0xA5; usize::from(size)]?)
 }
