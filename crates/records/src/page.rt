@@ -51,6 +51,12 @@ impl Page {
         self.end = put_hex_or_dash(&mut self.bytes, self.end, bytes);
     }
 
+    // How a call ended, and the room that it needs.
+    pub fn outcome(&mut self, number: u32, needed: usize) {
+        self.number(number);
+        self.next(needed as u64);
+    }
+
     pub fn write<W: Write>(&self, output: &mut W) -> io::Result<()>
         ensures { OnOk result (Appends (W.contents output.old) (W.contents output.new) (take self.now.end self.now.bytes)) }
     {

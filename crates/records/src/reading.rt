@@ -65,20 +65,21 @@ pub fn read_u32<R: Read>(input: &mut R) -> Result<u32, Fault> {
     Ok(u32::from_be_bytes(read_part(input)?))
 }
 
-// Reads so many bytes.
-pub fn read_bytes<R: Read>(alloc: Global, input: &mut R, size: u16) -> Result<Vec<u8>, Fault> {
-    let mut bytes = vec![in alloc; 0; usize::from(size)]?;
-    if read_full(input, &mut bytes)? < bytes.len() {
+// Reads how many bytes there are, and those.
+pub fn read_bytes<R: Read>(alloc: Global, input: &mut R) -> Result<Vec<u8>, Fault> {
+    let size = usize::from(read_u16(input)?);
+    let mut bytes = vec![in alloc; 0; size]?;
+    if read_full(input, &mut bytes)? < size {
         return Err(Fault::BadRecord);
     }
     Ok(bytes)
 }
 
-// Reads the size of a room, at most 1,023 bytes. The room is all 0xA5, so that a byte that was left alone shows.
+// Reads how large a room is, at most 1,023 bytes. It is all 0xA5, so that a byte that was left alone shows.
 pub fn read_room<R: Read>(alloc: Global, input: &mut R) -> Result<Vec<u8>, Fault> {
-    let size = read_u16(input)?;
+    let size = usize::from(read_u16(input)?);
     if size > 1023 {
         return Err(Fault::BadRecord);
     }
-    Ok(vec![in alloc; 0xA5; usize::from(size)]?)
+    Ok(vec![in alloc; 0xA5; size]?)
 }
