@@ -1,5 +1,5 @@
 // The stations of a record, as far as each has come, and the deliveries among them.
-use records::reading::{Fault, read_u8, read_u16, read_u32};
+use records::reading::{Fault, read_flag, read_u8, read_u16, read_u32};
 use station::making::new_station;
 use station::station::Station;
 use stations::list::{clock, deliver, startup};
@@ -25,15 +25,6 @@ impl TryFrom<u8> for Come {
             2 => Ok(Come::Clocked),
             _ => Err(Fault::BadRecord),
         }
-    }
-}
-
-// Reads a flag, which is 0 or 1.
-fn read_flag<R: Read>(input: &mut R) -> Result<bool, Fault> {
-    match read_u8(input)? {
-        0 => Ok(false),
-        1 => Ok(true),
-        _ => Err(Fault::BadRecord),
     }
 }
 

@@ -65,6 +65,15 @@ pub fn read_u32<R: Read>(input: &mut R) -> Result<u32, Fault> {
     Ok(u32::from_be_bytes(read_part(input)?))
 }
 
+// Reads a byte that is 0 or 1.
+pub fn read_flag<R: Read>(input: &mut R) -> Result<bool, Fault> {
+    match read_u8(input)? {
+        0 => Ok(false),
+        1 => Ok(true),
+        _ => Err(Fault::BadRecord),
+    }
+}
+
 // Reads how many bytes there are, and those.
 pub fn read_bytes<R: Read>(alloc: Global, input: &mut R) -> Result<Vec<u8>, Fault> {
     let size = usize::from(read_u16(input)?);

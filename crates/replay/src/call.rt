@@ -1,0 +1,149 @@
+// The call that a record makes.
+use events::answer::{Answered, Told};
+use judging::{Judged, judge};
+use records::reading::{Fault, read_bytes, read_flag, read_room, read_u8, read_u32};
+use std::alloc::Global;
+use std::io::Read;
+use table::calls::{clock, configure, empty, packet, question, remove, shutdown, startup};
+
+// A call, with what it is given and the room that is lent to it.
+#[derive(Drop)]
+pub enum Call {
+    // makes a new empty table
+    Empty {
+        primary: u32,
+    },
+    Configure {
+        vrid: u8,
+        priority: u8,
+        interval: u8,
+        preempt: bool,
+        addresses: Vec<u8>,
+    },
+    Remove {
+        vrid: u8,
+    },
+    Startup {
+        vrid: u8,
+        room: Vec<u8>,
+    },
+    Shutdown {
+        vrid: u8,
+        room: Vec<u8>,
+    },
+    Clock {
+        vrid: u8,
+        ticks: u32,
+        room: Vec<u8>,
+    },
+    Packet {
+        room: Vec<u8>,
+        bytes: Vec<u8>,
+    },
+    Question {
+        vrid: u8,
+    },
+}
+
+// The VRID that a packet bears, or 0, which no router has, where it is refused by 1 to 8.
+fn borne(packet: &[u8]) -> u8 {
+    match judge(packet) {
+        Judged::Accepted(fields) => fields.vrid,
+        Judged::Refused(_) => 0,
+    }
+}
+
+impl Call {
+    // Reads the rest of a call of this kind, its fields in their order.
+    pub fn read<R: Read>(alloc: Global, kind: u8, input: &mut R) -> Result<Call, Fault> {
+        match kind {
+            1 => Ok(Call::Empty {
+                primary: read_u32(input)?,
+            }),
+            2 => Ok(Call::Configure {
+                vrid: read_u8(input)?,
+                priority: read_u8(input)?,
+                interval: read_u8(input)?,
+                preempt: read_flag(input)?,
+                addresses: read_bytes(alloc, input)?,
+            }),
+            3 => Ok(Call::Remove {
+                vrid: read_u8(input)?,
+            }),
+            4 => Ok(Call::Startup {
+                vrid: read_u8(input)?,
+                room: read_room(alloc, input)?,
+            }),
+            5 => Ok(Call::Shutdown {
+                vrid: read_u8(input)?,
+                room: read_room(alloc, input)?,
+            }),
+            6 => Ok(Call::Clock {
+                vrid: read_u8(input)?,
+                ticks: read_u32(input)?,
+                room: read_room(alloc, input)?,
+            }),
+            7 => Ok(Call::Packet {
+                room: read_room(alloc, input)?,
+                bytes: read_bytes(alloc, input)?,
+            }),
+            8 => Ok(Call::Question {
+                vrid: read_u8(input)?,
+            }),
+            _ => Err(Fault::BadRecord),
+        }
+    }
+
+    // Makes the call.
+    pub fn make(&mut self, words: &mut [u32; 4096], lists: &mut [u8; 16320]) -> Answered {
+        match self {
+            Call::Empty { primary } => {
+                empty(words, *primary);
+                Answered::Done(0, 0)
+            }
+            Call::Configure {
+                vrid,
+                priority,
+                interval,
+                preempt,
+                addresses,
+            } => Answered::Refused(configure(
+                words, lists, *vrid, *priority, *interval, *preempt, addresses,
+            )),
+            Call::Remove { vrid } => Answered::Refused(remove(words, *vrid)),
+            Call::Startup { vrid, room } => startup(words, lists, *vrid, room),
+            Call::Shutdown { vrid, room } => shutdown(words, lists, *vrid, room),
+            Call::Clock { vrid, ticks, room } => clock(words, lists, *vrid, *ticks, room),
+            Call::Packet { room, bytes } => packet(words, lists, bytes, room),
+            Call::Question { vrid } => match question(words, *vrid) {
+                Told::Of(_) => Answered::Done(0, 0),
+                Told::Refused(number) => Answered::Refused(number),
+            },
+        }
+    }
+
+    // The room that was lent to it.
+    pub fn room(&self) -> &[u8] {
+        match self {
+            Call::Startup { room, .. }
+            | Call::Shutdown { room, .. }
+            | Call::Clock { room, .. }
+            | Call::Packet { room, .. } => room,
+            _ => &[],
+        }
+    }
+
+    // The VRID of the router that the line shows: a new table has none.
+    pub fn shown(&self) -> u8 {
+        match self {
+            Call::Empty { .. } => 0,
+            Call::Packet { bytes, .. } => borne(bytes),
+            Call::Configure { vrid, .. }
+            | Call::Remove { vrid }
+            | Call::Startup { vrid, .. }
+            | Call::Shutdown { vrid, .. }
+            | Call::Clock { vrid, .. }
+            | Call::Question { vrid } => *vrid,
+        }
+    }
+}
