@@ -5,6 +5,7 @@ ghost use Rattle.std.specs.Io.KnownBytes.{Appends};
 use std::io::Write;
 use std::{fmt, io};
 use text::{put, put_address, put_byte, put_decimal, put_hex_or_dash, put_next};
+use wire::refusal::{Refusal, number_of};
 
 #[derive(Drop)]
 pub struct Page {
@@ -50,9 +51,13 @@ impl Page {
         self.end = put_hex_or_dash(&mut self.bytes, self.end, bytes);
     }
 
-    // How a call ended, and the room that it needs.
-    pub fn outcome(&mut self, number: u32, needed: usize) {
-        self.number(number);
+    // How a call ended: its number, and the room that it needs.
+    pub fn outcome<T: Drop>(&mut self, outcome: Result<T, Refusal>) {
+        let needed = match &outcome {
+            Err(Refusal::Room(needed)) => *needed,
+            _ => 0,
+        };
+        self.number(number_of(outcome));
         self.next(needed as u64);
     }
 
@@ -60,12 +65,5 @@ impl Page {
         ensures { OnOk result (Appends (W.contents output.old) (W.contents output.new) (take self.now.end self.now.bytes)) }
     {
         output.write_all(&self.bytes[..self.end])
-    }
-}
-
-impl fmt::Write for Page {
-    fn write_str(&mut self, s: &str) -> fmt::Result {
-        self.text(s.as_bytes());
-        Ok(())
     }
 }

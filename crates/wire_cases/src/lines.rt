@@ -1,8 +1,8 @@
 // The line of each answer.
 use crate::case::Case;
-use judging::{Fields, Judged, judge};
+use judging::{Fields, judge};
 use records::page::Page;
-use rooms::Written;
+use wire::refusal::Refusal;
 use writing::arp::write_arp;
 use writing::frame::write_advertisement;
 
@@ -22,18 +22,14 @@ fn put_fields(page: &mut Page, fields: Fields) {
 // Puts what a packet is found to be.
 fn put_judged(page: &mut Page, packet: &[u8]) {
     match judge(packet) {
-        Judged::Accepted(fields) => put_fields(page, fields),
-        Judged::Refused(number) => page.number(number),
+        Ok(fields) => put_fields(page, fields),
+        Err(refusal) => page.number(refusal.number()),
     }
 }
 
 // Puts how a writing ended, and its room.
-fn put_written(page: &mut Page, written: Written, room: &[u8]) {
-    match written {
-        Written::Frame(_) => page.outcome(0, 0),
-        Written::Refused(number) => page.outcome(number, 0),
-        Written::Short(needed) => page.outcome(22, needed),
-    }
+fn put_written(page: &mut Page, written: Result<usize, Refusal>, room: &[u8]) {
+    page.outcome(written);
     page.byte(b' ');
     page.hex(room);
 }
