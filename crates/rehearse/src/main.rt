@@ -14,14 +14,12 @@ use std::io::{Read, Write};
 fn rehearse<W: Write>(output: &mut W, script: &[u8]) -> io::Result<()>
     ensures { OnOk result (Appends (W.contents output.old) (W.contents output.new) (rehearsal_of script.now)) }
 {
-    let mut out = [0u8; 65536];
+    let mut out = [0; 65536];
     let mut now = start();
     while !now.done {
         let ran = run(script, now, &mut out);
-        let next = ran.progress;
-        let written = ran.written;
-        now = next;
-        output.write_all(&out[..written])?;
+        output.write_all(&out[..ran.written])?;
+        now = ran.progress;
     }
     Ok(())
 }
@@ -32,10 +30,9 @@ fn rehearse_input<R: Read, W: Write>(input: &mut R, output: &mut W) -> io::Resul
         (λ script. Appends (W.contents output.old) (W.contents output.new) (rehearsal_of script))) }
 {
     // a byte more than a script may have
-    let mut script = [0u8; 65537];
+    let mut script = [0; 65537];
     let given = read_full(input, &mut script)?;
-    rehearse(output, &script[..given])?;
-    Ok(())
+    rehearse(output, &script[..given])
 }
 
 fn main(rt: HostRuntime) -> io::Result<()> {

@@ -1,11 +1,14 @@
 -- What was read is the whole input, or longer than a script may be.
 use Rattle.std.proofs.Common.{rules}
+use Rattle.std.proofs.lemmas.Result.{on_ok_weaker}
 use Rattle.rehearse.proofs.Whole.{whole_written}
 use Rattle.rehearse.proofs.rehearse_input.Goals as goal
 
 pub returns : goal.returns
 returns g c =
-    whole_written
+    on_ok_weaker
+    _
+    (whole_written
     _
     _
     _
@@ -15,5 +18,5 @@ returns g c =
     (search rules)
     c.in_ok-given.ensures.within
     c.in_ok-given.ensures.bytes
-    c.in_ok-given.ensures.end
-    c.in_ok-rehearse.ensures
+    c.in_ok-given.ensures.end)
+    c.rehearse.ensures
