@@ -20,9 +20,8 @@ use Rattle.states.specs.declared.step.Outcome.{Outcome}
 use Rattle.states.specs.Step.{step_of}
 use Rattle.router.specs.Clock.{ticked_of}
 use Rattle.output.specs.Output.{need_of}
-use Rattle.places.specs.declared.place.Found.{Found}
-use Rattle.places.specs.declared.place.Found.TheVariants.{At, Nothing}
-use Rattle.places.specs.Place.{primary_of, record_at, set_record, count_at_place, place_of}
+use Rattle.places.specs.Place.{Found, primary_of, record_at, set_record, count_at_place, place_of}
+use Rattle.std.specs.Prelude.{Some, None}
 use Rattle.places.proofs.Beside.{beside_record}
 use Rattle.places.proofs.Events.{event_beside, count_beside}
 use Rattle.places.proofs.Finding.{found, missing}
@@ -97,23 +96,23 @@ acted_elsewhere words lists p o leftover room q n =
     either_elsewhere (ltb (length room) (need_of o.writes (4 * o.router.count))) _ _ words q refl
     (beside_record p words _ (event_beside words p o.router) q n)
 
-happened_elsewhere : (f : Found) (words lists : List ℕ) (q : ℕ) (e : Event) (room : List ℕ) → (f ≡ At q → ⊥)
+happened_elsewhere : (f : Found) (words lists : List ℕ) (q : ℕ) (e : Event) (room : List ℕ) → (f ≡ Some q → ⊥)
     → record_at (happened_at f words lists e room).words q ≡ record_at words q
-happened_elsewhere Nothing words lists q e room n = refl
-happened_elsewhere (At p) words lists q e room n =
-    acted_elsewhere words lists p (step_of (primary_of words) (record_at words p) e) 0 room q (λ z. n (ap At (sym z)))
+happened_elsewhere None words lists q e room n = refl
+happened_elsewhere (Some p) words lists q e room n =
+    acted_elsewhere words lists p (step_of (primary_of words) (record_at words p) e) 0 room q (λ z. n (ap Some (sym z)))
 
 pub event_elsewhere : EventElsewhere
 unfolding happened_of
 event_elsewhere words lists v q e room n = happened_elsewhere (router_place words v) words lists q e room n
 
-clocked_elsewhere : (f : Found) (words lists : List ℕ) (q d : ℕ) (room : List ℕ) → (f ≡ At q → ⊥)
+clocked_elsewhere : (f : Found) (words lists : List ℕ) (q d : ℕ) (room : List ℕ) → (f ≡ Some q → ⊥)
     → record_at (clocked_at f words lists d room).words q ≡ record_at words q
-clocked_elsewhere Nothing words lists q d room n = refl
-clocked_elsewhere (At p) words lists q d room n =
+clocked_elsewhere None words lists q d room n = refl
+clocked_elsewhere (Some p) words lists q d room n =
     acted_elsewhere words lists p (ticked_of (primary_of words) (record_at words p) d).outcome
     (ticked_of (primary_of words) (record_at words p) d).leftover
-    room q (λ z. n (ap At (sym z)))
+    room q (λ z. n (ap Some (sym z)))
 
 pub clock_elsewhere : ClockElsewhere
 unfolding clocked_of
@@ -132,15 +131,15 @@ counted_elsewhere false words lists bytes p f room q n e =
     let range = refused_range words lists bytes p f number refl (eqb-false number 0 e) in
     beside_record p words _ (count_beside words p number range.0 range.1) q n
 
-pub heard_elsewhere : (f : Found) (words lists bytes : List ℕ) (fields : Fields) (room : List ℕ) (q : ℕ) → (f ≡ At q → ⊥)
+pub heard_elsewhere : (f : Found) (words lists bytes : List ℕ) (fields : Fields) (room : List ℕ) (q : ℕ) → (f ≡ Some q → ⊥)
     → record_at (sought_at f words lists bytes fields room).words q ≡ record_at words q
-heard_elsewhere Nothing words lists bytes fields room q n = count_record words 9 (omega arith) q
-heard_elsewhere (At p) words lists bytes fields room q n =
+heard_elsewhere None words lists bytes fields room q n = count_record words 9 (omega arith) q
+heard_elsewhere (Some p) words lists bytes fields room q n =
     counted_elsewhere (eqb (refusal_at words lists p bytes fields) 0) words lists bytes p fields room q
-    (λ z. n (ap At (sym z))) refl
+    (λ z. n (ap Some (sym z))) refl
 
 judged_elsewhere : (j : Judged) (words lists bytes room : List ℕ) (q : ℕ) → judged_of bytes ≡ j
-    → ((fields : Fields) → j ≡ Accepted fields → router_place words fields.vrid ≡ At q → ⊥)
+    → ((fields : Fields) → j ≡ Accepted fields → router_place words fields.vrid ≡ Some q → ⊥)
     → record_at (judged_at j words lists bytes room).words q ≡ record_at words q
 judged_elsewhere (Refused number) words lists bytes room q e n =
     count_record words number (omega (arith, refused_most bytes number (sym e))) q
@@ -152,13 +151,13 @@ unfolding heard_of
 packet_elsewhere words lists bytes room q n = judged_elsewhere (judged_of bytes) words lists bytes room q refl n
 
 -- a record put at a place that was found, where nothing is refused
-put_elsewhere : (t : Bool) (f : Found) (words : List ℕ) (r : Router) (q : ℕ) → ((p : ℕ) → f ≡ At p → p < 255)
-    → (t ≡ true → f ≡ Nothing → ⊥) → length words ≡ 4096 → (f ≡ At q → ⊥)
+put_elsewhere : (t : Bool) (f : Found) (words : List ℕ) (r : Router) (q : ℕ) → ((p : ℕ) → f ≡ Some p → p < 255)
+    → (t ≡ true → f ≡ None → ⊥) → length words ≡ 4096 → (f ≡ Some q → ⊥)
     → record_at (cond t (set_record words (place_in f) r) words) q ≡ record_at words q
 put_elsewhere false f words r q below there long n = refl
-put_elsewhere true Nothing words r q below there long n = absurd (there refl refl)
-put_elsewhere true (At p) words r q below there long n =
-    record_other words p r (below p refl) long q (λ z. n (ap At (sym z)))
+put_elsewhere true None words r q below there long n = absurd (there refl refl)
+put_elsewhere true (Some p) words r q below there long n =
+    record_other words p r (below p refl) long q (λ z. n (ap Some (sym z)))
 
 pub configure_elsewhere : ConfigureElsewhere
 configure_elsewhere words v priority interval preempt addresses q long n =
@@ -176,13 +175,13 @@ list_other lists addresses p q n long below most few e =
     part_other lists addresses (64 * p) (length addresses) (64 * q) (4 * n) (omega arith) refl
     (⊎_elim (λ x. inl (omega arith)) (λ x. inr (omega arith)) (apart q p e))
 
-put_list_elsewhere : (t : Bool) (f : Found) (lists addresses : List ℕ) (q n : ℕ) → ((p : ℕ) → f ≡ At p → p < 255)
-    → (t ≡ true → (f ≡ Nothing → ⊥) × (length addresses ≤ 64)) → length lists ≡ 16320 → n ≤ 16 → (f ≡ At q → ⊥)
+put_list_elsewhere : (t : Bool) (f : Found) (lists addresses : List ℕ) (q n : ℕ) → ((p : ℕ) → f ≡ Some p → p < 255)
+    → (t ≡ true → (f ≡ None → ⊥) × (length addresses ≤ 64)) → length lists ≡ 16320 → n ≤ 16 → (f ≡ Some q → ⊥)
     → list_at (cond t (set_list lists (place_in f) addresses) lists) q n ≡ list_at lists q n
 put_list_elsewhere false f lists addresses q n below good long few e = refl
-put_list_elsewhere true Nothing lists addresses q n below good long few e = absurd ((good refl).0 refl)
-put_list_elsewhere true (At p) lists addresses q n below good long few e =
-    list_other lists addresses p q n long (below p refl) (good refl).1 few (λ z. e (ap At (sym z)))
+put_list_elsewhere true None lists addresses q n below good long few e = absurd ((good refl).0 refl)
+put_list_elsewhere true (Some p) lists addresses q n below good long few e =
+    list_other lists addresses p q n long (below p refl) (good refl).1 few (λ z. e (ap Some (sym z)))
 
 pub list_elsewhere : ListElsewhere
 list_elsewhere words lists v priority interval addresses q n long few e =

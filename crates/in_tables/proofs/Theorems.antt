@@ -19,9 +19,8 @@ use Rattle.states.proofs.Kept.{Unchanged, step_unchanged}
 use Rattle.router.specs.Clock.{ticked_of}
 use Rattle.router.specs.Accept.{refused_of}
 use Rattle.router.proofs.Kept.{ticked_unchanged}
-use Rattle.places.specs.declared.place.Found.{Found}
-use Rattle.places.specs.declared.place.Found.TheVariants.{At, Nothing}
-use Rattle.places.specs.Place.{count_at_place}
+use Rattle.places.specs.Place.{Found, count_at_place}
+use Rattle.std.specs.Prelude.{Some, None}
 use Rattle.events.specs.Lists.{list_at}
 use Rattle.events.specs.Result.{Result as TableResult, refuses as table_refuses, router_place, acted_of}
 use Rattle.events.specs.Events.{happened_at, happened_of, clocked_at, clocked_of}
@@ -134,7 +133,7 @@ module _ (s : Station) (w : WellFormed s) where
 
   -- a call for the station's router: at the first place, or refused
   called_in_table : (t : Bool) (call : Found → TableResult) (a b : Result) → eqb s.router.vrid 0 ≡ t
-      → call (At 0) ≡ in_table a → call Nothing ≡ in_table b
+      → call (Some 0) ≡ in_table a → call None ≡ in_table b
       → call (router_place (words_of s) s.router.vrid) ≡ in_table (cond (not t) a b)
   called_in_table true call a b e x y =
       ap call (none_in_table s s.router.vrid w (eqb-true s.router.vrid 0 e)) ∙ y

@@ -19,7 +19,7 @@ use Rattle.states.specs.declared.step.Writes.TheVariants.{Nothing as WritesNothi
 use Rattle.states.specs.Turn.{turn_of}
 use Rattle.states.proofs.Turning.{applied_turn}
 use Rattle.router.specs.Accept.{list_differs, router_refusal, accepted_of}
-use Rattle.places.specs.declared.place.Found.TheVariants.{At, Nothing}
+use Rattle.std.specs.Prelude.{Some, None}
 use Rattle.places.specs.Place.{primary_of, record_at, set_event, count_refusal, count_at_place}
 use Rattle.events.specs.declared.answer.Answered.TheVariants.{Done, Refused}
 use Rattle.events.specs.Lists.{list_at, their_list, lists_match}
@@ -88,12 +88,12 @@ module _ (words lists packet : List ℕ) (p : ℕ) (f : Fields) (room : List ℕ
       → acted_of words lists p (accepted_at words p f) 0 room ≡ heard_at words lists p packet f room
   heard_accepted e = rw e
 
-  pub sought_there : router_place words f.vrid ≡ At p
+  pub sought_there : router_place words f.vrid ≡ Some p
       → heard_at words lists p packet f room ≡ sought_at (router_place words f.vrid) words lists packet f room
   sought_there e = rw e
 
 module _ (words lists packet room : List ℕ) where
-  pub sought_nowhere : (f : Fields) (after : List ℕ) → router_place words f.vrid ≡ Nothing → after ≡ count_refusal words 9
+  pub sought_nowhere : (f : Fields) (after : List ℕ) → router_place words f.vrid ≡ None → after ≡ count_refusal words 9
       → Leaves (sought_at (router_place words f.vrid) words lists packet f room) (Refused 9) after room
   sought_nowhere f after e w =
       record {

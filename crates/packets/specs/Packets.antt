@@ -1,5 +1,5 @@
 -- A packet that the host hands over (01, 'Refusal numbers', 'Counts').
-use Rattle.std.specs.Prelude.{ℕ, List, cond, eqb}
+use Rattle.std.specs.Prelude.{ℕ, List, cond, eqb, Some, None}
 use Rattle.judging.specs.declared.Fields.{Fields}
 use Rattle.judging.specs.declared.Judged.{Judged}
 use Rattle.judging.specs.declared.Judged.TheVariants.{Accepted, Refused}
@@ -8,9 +8,7 @@ use Rattle.states.specs.declared.step.Event.TheVariants.{Packet}
 use Rattle.states.specs.declared.step.Outcome.{Outcome}
 use Rattle.states.specs.Step.{step_of}
 use Rattle.router.specs.Accept.{router_refusal, accepted_of}
-use Rattle.places.specs.declared.place.Found.{Found}
-use Rattle.places.specs.declared.place.Found.TheVariants.{At, Nothing}
-use Rattle.places.specs.Place.{primary_of, record_at, count_refusal, count_at_place}
+use Rattle.places.specs.Place.{Found, primary_of, record_at, count_refusal, count_at_place}
 use Rattle.events.specs.Lists.{list_at, their_list, lists_match}
 use Rattle.events.specs.Result.{Result, refuses, router_place, acted_of}
 
@@ -35,8 +33,8 @@ heard_at words lists place packet fields room =
 
 -- "9 VRID not in the table"
 abbrev pub sought_at : Found → List ℕ → List ℕ → List ℕ → Fields → List ℕ → Result
-sought_at Nothing words lists packet fields room = refuses 9 (count_refusal words 9) room
-sought_at (At place) words lists packet fields room = heard_at words lists place packet fields room
+sought_at None words lists packet fields room = refuses 9 (count_refusal words 9) room
+sought_at (Some place) words lists packet fields room = heard_at words lists place packet fields room
 
 -- "Refusals 1 to 9 add one to that interface count"
 abbrev pub judged_at : Judged → List ℕ → List ℕ → List ℕ → List ℕ → Result

@@ -8,22 +8,12 @@ use crate::layout::{decode, encode, state_of};
 use states::record::{Router, State};
 use states::step::state_number;
 
-#[derive(Clone, Copy)]
-pub enum Found {
-    At(usize),
-    Nothing,
-}
-
 // Copies 16 words into the table from `at` on.
 fn put(words: &mut [u32], at: usize, from: &[u32; 16])
     requires { (at + 16 ≤ length words.old) × (length from.now ≡ 16) }
     ensures { words.new ≡ paste words.old at from.now 16 }
 {
-    let mut k = 0;
-    while k < 16 {
-        words[at + k] = from[k];
-        k += 1;
-    }
+    words[at..at + 16].copy_from_slice(from)
 }
 
 // The record at a place.
@@ -109,17 +99,15 @@ pub fn count_at_place(words: &mut [u32], place: usize, number: u32)
 }
 
 // The lowest place whose first word is `vrid`: the place of a virtual router, or for 0 the lowest free one.
-pub fn find(words: &[u32], vrid: u8) -> Found
+pub fn find(words: &[u32], vrid: u8) -> Option<usize>
     requires { length words.now ≡ 4096 }
     ensures { result ≡ place_of words.now vrid }
 {
-    let sought = vrid as u32;
-    let mut place: usize = 0;
-    while place < 255 {
+    let sought = u32::from(vrid);
+    for place in 0..255 {
         if words[16 + 16 * place] == sought {
-            return Found::At(place);
+            return Some(place);
         }
-        place += 1;
     }
-    Found::Nothing
+    None
 }
