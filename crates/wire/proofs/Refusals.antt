@@ -1,5 +1,5 @@
 -- The laws of refusals and their numbers.
---     within           a refusal's number is 1 to 30
+--     within, nonzero  a refusal's number is 1 to 30
 --     same_refusal     equal numbers and equal rooms needed are equal refusals
 --     accepted         0 is answered exactly where there is a value
 --     refused          and another number is that of the refusal
@@ -99,6 +99,9 @@ within SeventeenthStation = omega arith
 within NothingToDeliver = omega arith
 within PreemptAboveOne = omega arith
 within ScriptTooLong = omega arith
+
+pub nonzero : (r : Refusal) → ¬ (refusal_number r ≡ 0)
+nonzero r e = omega (arith, within r)
 
 pub accepted : {T : Type 0} (answer : Result T Refusal) → number_answered answer ≡ 0 → (value : T) × (answer ≡ Ok value)
 accepted (Ok value) e = (value, refl)
