@@ -10,9 +10,8 @@ use lib.Dec.{eqb, ltb}
 use lib.ListN.{length}
 use borrow.Author.Tests.{eqb-true, eqb-false, ne_eqb, le-ltb}
 use Rattle.judging.specs.declared.Fields.{Fields}
-use Rattle.judging.specs.declared.Judged.{Judged}
-use Rattle.judging.specs.declared.Judged.TheVariants.{Accepted, Refused}
-use Rattle.judging.specs.Judging.{judged_of}
+use Rattle.judging.specs.Judging.{Judged, judged_of}
+use Rattle.std.specs.Prelude.{Ok, Err, Some, None}
 use Rattle.judging.proofs.Accepted.{refused_most}
 use Rattle.states.specs.declared.record.Router.{Router}
 use Rattle.states.specs.declared.step.Event.{Event}
@@ -21,7 +20,6 @@ use Rattle.states.specs.declared.step.Outcome.{Outcome}
 use Rattle.states.specs.Step.{step_of}
 use Rattle.output.specs.Output.{need_of}
 use Rattle.places.specs.Place.{Found, primary_of, record_at, set_record, place_of, refusal_count, count_refusal, count_at_place}
-use Rattle.std.specs.Prelude.{Some, None}
 use Rattle.places.proofs.Finding.{found}
 use Rattle.places.proofs.Beside.{beside_count}
 use Rattle.places.proofs.Events.{event_beside, count_beside}
@@ -119,9 +117,9 @@ module _ (number : ℕ) (least : 1 ≤ number) (most : number ≤ 9) where
 
   judged_adds : (j : Judged) (words lists bytes room : List ℕ) → judged_of bytes ≡ j → length words ≡ 4096 → of words < 2 ^ 32
       → Adds words (judged_at j words lists bytes room)
-  judged_adds (Refused n) words lists bytes room e long small =
+  judged_adds (Err n) words lists bytes room e long small =
       count_adds words n long small (omega (arith, refused_most bytes n (sym e)))
-  judged_adds (Accepted fields) words lists bytes room e long small =
+  judged_adds (Ok fields) words lists bytes room e long small =
       sought_adds (router_place words fields.vrid) words lists bytes fields room refl long small
 
   -- configuring and removing store a record where nothing is refused

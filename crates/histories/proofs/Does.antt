@@ -10,9 +10,8 @@ use lib.Dec.{eqb, ltb}
 use lib.ListN.{length}
 use borrow.Author.Tests.{eqb-true, eqb-false}
 use Rattle.judging.specs.declared.Fields.{Fields}
-use Rattle.judging.specs.declared.Judged.{Judged}
-use Rattle.judging.specs.declared.Judged.TheVariants.{Accepted, Refused}
-use Rattle.judging.specs.Judging.{judged_of}
+use Rattle.judging.specs.Judging.{Judged, judged_of}
+use Rattle.std.specs.Prelude.{Ok, Err, Some, None}
 use Rattle.judging.proofs.Accepted.{refused_most, refused_least}
 use Rattle.states.specs.declared.record.Router.{Router}
 use Rattle.states.specs.declared.step.Event.{Event}
@@ -22,7 +21,6 @@ use Rattle.states.proofs.Kept.{Unchanged, step_unchanged}
 use Rattle.router.proofs.Kept.{ticked_unchanged}
 use Rattle.output.specs.Output.{need_of}
 use Rattle.places.specs.Place.{Found, primary_of, record_at, set_record, place_of, count_refusal, count_at_place}
-use Rattle.std.specs.Prelude.{Some, None}
 use Rattle.events.specs.Lists.{set_list}
 use Rattle.events.specs.Result.{Result, refuses, router_place, acted_of}
 use Rattle.events.specs.Events.{happened_at, happened_of, clocked_at, clocked_of}
@@ -90,9 +88,9 @@ module _ (words lists : List ℕ) (long : length words ≡ 4096) where
   sought (Some p) bytes fields room s = heard (eqb (refusal_at words lists p bytes fields) 0) p bytes fields room s refl
 
   judged : (j : Judged) (bytes room : List ℕ) → judged_of bytes ≡ j → Moves words (judged_at j words lists bytes room).words
-  judged (Refused n) bytes room e =
+  judged (Err n) bytes room e =
       counts n (omega (arith, refused_least bytes n (sym e))) (omega (arith, refused_most bytes n (sym e)))
-  judged (Accepted fields) bytes room e = sought (router_place words fields.vrid) bytes fields room refl
+  judged (Ok fields) bytes room e = sought (router_place words fields.vrid) bytes fields room refl
 
 module _ (words lists : List ℕ) (gone : ℕ) where
   configured : (t : Bool) (f : Found) (v priority interval : ℕ) (preempt : Bool) (addresses : List ℕ) → place_of words 0 ≡ f

@@ -9,9 +9,8 @@ use lib.Dec.{eqb, ltb}
 use lib.ListN.{length, get_or}
 use borrow.Author.Tests.{eqb-true, eqb-false, ltb-false, not-false}
 use Rattle.judging.specs.declared.Fields.{Fields}
-use Rattle.judging.specs.declared.Judged.{Judged}
-use Rattle.judging.specs.declared.Judged.TheVariants.{Accepted, Refused}
-use Rattle.judging.specs.Judging.{judged_of}
+use Rattle.judging.specs.Judging.{Judged, judged_of}
+use Rattle.std.specs.Prelude.{Ok, Err, Some, None}
 use Rattle.judging.proofs.Accepted.{refused_most}
 use Rattle.writing.specs.Writing.{address_bytes_wrong}
 use Rattle.wire.proofs.Checks.{passed}
@@ -26,7 +25,6 @@ use Rattle.router.proofs.Kept.{ticked_unchanged}
 use Rattle.router.proofs.Timed.{step_timed, ticked_timed}
 use Rattle.output.specs.Output.{need_of}
 use Rattle.places.specs.Place.{Found, base_of, primary_of, record_at, set_record, count_at_place, place_of}
-use Rattle.std.specs.Prelude.{Some, None}
 use Rattle.places.proofs.Finding.{found, missing}
 use Rattle.places.specs.Layout.{InRange}
 use Rattle.places.proofs.Records.{read_in_range}
@@ -120,9 +118,9 @@ sought_held (Some p) words lists held bytes fields room s =
 
 judged_held : (j : Judged) (words lists : List ℕ) → Held words → (bytes room : List ℕ) → judged_of bytes ≡ j
     → Held (judged_at j words lists bytes room).words
-judged_held (Refused number) words lists held bytes room e =
+judged_held (Err number) words lists held bytes room e =
     count_held words held number (omega (arith, refused_most bytes number (sym e)))
-judged_held (Accepted fields) words lists held bytes room e =
+judged_held (Ok fields) words lists held bytes room e =
     sought_held (router_place words fields.vrid) words lists held bytes fields room refl
 
 -- "17 address bytes not a multiple of 4, none, or above 64": the others are 1 to 16 addresses

@@ -10,9 +10,8 @@ use lib.Dec.{eqb, ltb}
 use lib.ListN.{length, length-set}
 use lib.Seq.{get_or-set_same, get_or-set_other}
 use borrow.Author.Tests.{eqb-false, ne_eqb, le-leb, lt-leb}
-use Rattle.judging.specs.declared.Judged.{Judged}
-use Rattle.judging.specs.declared.Judged.TheVariants.{Accepted, Refused}
-use Rattle.judging.specs.Judging.{judged_of, fields_of}
+use Rattle.judging.specs.Judging.{Judged, judged_of, fields_of}
+use Rattle.std.specs.Prelude.{Ok, Err, Some, None}
 use Rattle.judging.proofs.Accepted.{refused_most, refused_least, accepted_is}
 use Rattle.states.specs.declared.record.State.{State}
 use Rattle.states.specs.declared.step.Event.{Event}
@@ -21,7 +20,6 @@ use Rattle.states.specs.Step.{stays, step_of}
 use Rattle.router.specs.Clock.{ticked_in, ticked_of}
 use Rattle.output.specs.Output.{need_of}
 use Rattle.places.specs.Place.{Found, primary_of, record_at, set_event, count_word, count_refusal, router_word, count_at_place}
-use Rattle.std.specs.Prelude.{Some, None}
 use Rattle.places.proofs.Events.{event_same}
 use Rattle.events.specs.Result.{Result, refuses, router_place, acted_of}
 use Rattle.events.specs.Events.{happened_at, happened_of, clocked_at, clocked_of}
@@ -136,10 +134,10 @@ module _ (words lists bytes room : List ℕ) where
   sought_ends (Some p) e = heard_test (eqb (refusal_at words lists p bytes (fields_of bytes)) 0) p e refl
 
   judged_ends : (j : Judged) → judged_of bytes ≡ j → Ending (judged_at j words lists bytes room)
-  judged_ends (Refused n) e =
+  judged_ends (Err n) e =
       let least = refused_least bytes n (sym e) in
       interface_refused n (omega arith) (omega (arith, refused_most bytes n (sym e)))
-  judged_ends (Accepted fields) e =
+  judged_ends (Ok fields) e =
       rw (accepted_is bytes fields (sym e)).1 (sought_ends (router_place words (fields_of bytes).vrid) refl)
 
   pub heard_ends : Ending (heard_of words lists bytes room)

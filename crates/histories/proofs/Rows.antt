@@ -13,14 +13,13 @@ use borrow.Author.Tests.{eqb-true, eqb-false, ne_eqb}
 use Rattle.wire.specs.Check.{Check, first_refusal, Passes}
 use Rattle.wire.proofs.Checks.{Numbered, passed, all_pass, refusal_after, refusal_before}
 use Rattle.judging.specs.declared.Fields.{Fields}
-use Rattle.judging.specs.declared.Judged.TheVariants.{Accepted, Refused as JudgedRefused}
+use Rattle.std.specs.Prelude.{Ok, Err, Some, None}
 use Rattle.judging.specs.Judging.{packet_checks as judging_checks, refusal_of, fields_of, judged_of}
 use Rattle.judging.proofs.Accepted.{refusal_most}
 use Rattle.states.specs.declared.step.Event.{Event}
 use Rattle.states.specs.declared.step.Outcome.{Outcome}
 use Rattle.router.specs.Accept.{router_refusal}
 use Rattle.places.specs.Place.{Found, count_at_place}
-use Rattle.std.specs.Prelude.{Some, None}
 use Rattle.events.specs.Result.{Answer, Result, refusal, refuses, router_place, acted_of}
 use Rattle.events.specs.Events.{happened_of, clocked_of, Status, asked_of}
 use Rattle.configuring.specs.Configuring.{configure_checks, configure_refusal, remove_checks, remove_refusal}
@@ -151,7 +150,7 @@ unfolding heard_of judged_of refusal_of
 packet_values words lists bytes room =
     let number = first_refusal (judging_checks bytes) in
     both_by (judging_checks bytes) (table_checks words lists bytes room) (needs (packet_outcome words bytes)) 0
-    (λ (t : Bool). (judged_at (cond t (Accepted (fields_of bytes)) (JudgedRefused number)) words lists bytes room).answer)
+    (λ (t : Bool). (judged_at (cond t (Ok (fields_of bytes)) (Err number)) words lists bytes room).answer)
     (omega arith) (omega (arith, refusal_most 8 (judging_checks bytes) (omega arith)))
     (sought_by_lem (router_place words (fields_of bytes).vrid) words lists bytes room refl) refl
 

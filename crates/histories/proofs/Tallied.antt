@@ -10,9 +10,8 @@ use lib.Dec.{eqb, ltb}
 use lib.ListN.{length}
 use borrow.Author.Tests.{eqb-true, eqb-false, eq-eqb, ne_eqb}
 use Rattle.judging.specs.declared.Fields.{Fields}
-use Rattle.judging.specs.declared.Judged.{Judged}
-use Rattle.judging.specs.declared.Judged.TheVariants.{Accepted, Refused}
-use Rattle.judging.specs.Judging.{judged_of}
+use Rattle.judging.specs.Judging.{Judged, judged_of}
+use Rattle.std.specs.Prelude.{Ok, Err, Some, None}
 use Rattle.judging.proofs.Accepted.{refused_most}
 use Rattle.states.specs.declared.record.Counts.{Counts}
 use Rattle.states.specs.declared.record.Router.{Router}
@@ -25,7 +24,6 @@ use Rattle.states.proofs.Kept.{Unchanged, step_unchanged}
 use Rattle.router.proofs.Kept.{ticked_unchanged}
 use Rattle.output.specs.Output.{need_of}
 use Rattle.places.specs.Place.{Found, primary_of, record_at, set_record, set_event, place_of, count_refusal, count_at_place}
-use Rattle.std.specs.Prelude.{Some, None}
 use Rattle.places.proofs.Beside.{beside_record}
 use Rattle.places.proofs.Finding.{found}
 use Rattle.places.specs.Layout.{InRange}
@@ -209,10 +207,10 @@ module _ (p : ℕ) (below : p < 255) (words : List ℕ) (long : length words ≡
 
   pub judged : (j : Judged) (lists bytes room : List ℕ) → judged_of bytes ≡ j
       → Heard (addressee words j) (judged_at j words lists bytes room)
-  judged (Refused n) lists bytes room e =
+  judged (Err n) lists bytes room e =
       form (count_refusal words n)
       (unchanged (count_refusal words n) (count_record words n (omega (arith, refused_most bytes n (sym e))) p))
-  judged (Accepted fields) lists bytes room e = sought (router_place words fields.vrid) lists bytes fields room refl
+  judged (Ok fields) lists bytes room e = sought (router_place words fields.vrid) lists bytes fields room refl
 
   -- a record with no counts, put at the place that was found where nothing is refused
   abbrev Put : Bool → Bool → List ℕ → Type 0

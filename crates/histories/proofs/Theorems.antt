@@ -10,9 +10,8 @@ use lib.Dec.{eqb, ltb}
 use lib.ListN.{length}
 use borrow.Author.Tests.{eqb-true, eqb-false}
 use Rattle.judging.specs.declared.Fields.{Fields}
-use Rattle.judging.specs.declared.Judged.{Judged}
-use Rattle.judging.specs.declared.Judged.TheVariants.{Accepted, Refused}
-use Rattle.judging.specs.Judging.{judged_of}
+use Rattle.judging.specs.Judging.{Judged, judged_of}
+use Rattle.std.specs.Prelude.{Ok, Err, Some, None}
 use Rattle.judging.proofs.Accepted.{refused_most}
 use Rattle.states.specs.declared.record.Router.{Router}
 use Rattle.states.specs.declared.step.Event.{Event}
@@ -21,7 +20,6 @@ use Rattle.states.specs.Step.{step_of}
 use Rattle.router.specs.Clock.{ticked_of}
 use Rattle.output.specs.Output.{need_of}
 use Rattle.places.specs.Place.{Found, primary_of, record_at, set_record, count_at_place, place_of}
-use Rattle.std.specs.Prelude.{Some, None}
 use Rattle.places.proofs.Beside.{beside_record}
 use Rattle.places.proofs.Events.{event_beside, count_beside}
 use Rattle.places.proofs.Finding.{found, missing}
@@ -139,11 +137,11 @@ heard_elsewhere (Some p) words lists bytes fields room q n =
     (λ z. n (ap Some (sym z))) refl
 
 judged_elsewhere : (j : Judged) (words lists bytes room : List ℕ) (q : ℕ) → judged_of bytes ≡ j
-    → ((fields : Fields) → j ≡ Accepted fields → router_place words fields.vrid ≡ Some q → ⊥)
+    → ((fields : Fields) → j ≡ Ok fields → router_place words fields.vrid ≡ Some q → ⊥)
     → record_at (judged_at j words lists bytes room).words q ≡ record_at words q
-judged_elsewhere (Refused number) words lists bytes room q e n =
+judged_elsewhere (Err number) words lists bytes room q e n =
     count_record words number (omega (arith, refused_most bytes number (sym e))) q
-judged_elsewhere (Accepted fields) words lists bytes room q e n =
+judged_elsewhere (Ok fields) words lists bytes room q e n =
     heard_elsewhere (router_place words fields.vrid) words lists bytes fields room q (n fields refl)
 
 pub packet_elsewhere : PacketElsewhere

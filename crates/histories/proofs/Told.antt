@@ -10,13 +10,11 @@ use lib.Dec.{eqb}
 use lib.ListN.{get_or}
 use borrow.Author.Tests.{eq-eqb, ne_eqb, eqb-true, eqb-false}
 use Rattle.judging.specs.declared.Fields.{Fields}
-use Rattle.judging.specs.declared.Judged.{Judged}
-use Rattle.judging.specs.declared.Judged.TheVariants.{Accepted, Refused}
-use Rattle.judging.specs.Judging.{judged_of}
+use Rattle.judging.specs.Judging.{Judged, judged_of}
+use Rattle.std.specs.Prelude.{Ok, Err, Some, None}
 use Rattle.states.specs.declared.record.Counts.{Counts}
 use Rattle.states.specs.declared.record.Router.{Router}
 use Rattle.places.specs.Place.{Found, base_of, record_at, set_record, place_of}
-use Rattle.std.specs.Prelude.{Some, None}
 use Rattle.places.proofs.Beside.{beside_first}
 use Rattle.places.proofs.Finding.{found}
 use Rattle.places.proofs.Words.{first_same, first_other, count_first}
@@ -69,8 +67,8 @@ module _ (words : List ℕ) (v p : ℕ) (at : router_place words v ≡ Some p) w
 
   -- a packet is for the router at the place exactly where it carries its number
   for_it : (j : Judged) → is_at (addressee words j) p ≡ is_for v j
-  for_it (Refused n) = refl
-  for_it (Accepted fields) = for_test (eqb fields.vrid v) fields.vrid refl
+  for_it (Err n) = refl
+  for_it (Ok fields) = for_test (eqb fields.vrid v) fields.vrid refl
 
   free_test : (f : Found) → place_of words 0 ≡ f → is_at f p ≡ false
   free_test None s = refl
@@ -239,12 +237,12 @@ module _ (v : ℕ) where
         ∙ nowhere
 
     -- a packet for it is refused by 9
-    nine : (bytes room : List ℕ) (f : Fields) → judged_of bytes ≡ Accepted f → f.vrid ≡ v
+    nine : (bytes room : List ℕ) (f : Fields) → judged_of bytes ≡ Ok f → f.vrid ≡ v
         → (heard_of m.words m.lists bytes room).answer.number ≡ 9
     unfolding heard_of
     nine bytes room f e z = rw (e, z, nowhere)
 
-    unheard_test : (t : Bool) (bytes room : List ℕ) (f : Fields) (n : ℕ) → judged_of bytes ≡ Accepted f → eqb f.vrid v ≡ t
+    unheard_test : (t : Bool) (bytes room : List ℕ) (f : Fields) (n : ℕ) → judged_of bytes ≡ Ok f → eqb f.vrid v ≡ t
         → ¬ (9 ≡ n) → (t && eqb (heard_of m.words m.lists bytes room).answer.number n) ≡ false
     unheard_test false bytes room f n e z other = refl
     unheard_test true bytes room f n e z other =
@@ -252,8 +250,8 @@ module _ (v : ℕ) where
 
     unheard_judged : (j : Judged) (bytes room : List ℕ) (n : ℕ) → judged_of bytes ≡ j → ¬ (9 ≡ n)
         → (is_for v j && eqb (heard_of m.words m.lists bytes room).answer.number n) ≡ false
-    unheard_judged (Refused k) bytes room n e other = refl
-    unheard_judged (Accepted f) bytes room n e other = unheard_test (eqb f.vrid v) bytes room f n e refl other
+    unheard_judged (Err k) bytes room n e other = refl
+    unheard_judged (Ok f) bytes room n e other = unheard_test (eqb f.vrid v) bytes room f n e refl other
 
     unheard : (call : Call) (n : ℕ) → ¬ (9 ≡ n) → hears_by v m call n ≡ false
     unheard (configure u priority interval preempt addresses) n other = refl

@@ -2,10 +2,9 @@
 -- the answers in proofs/Rows.antt, of what a refusal changes in proofs/Kept.antt and a call that is done in Done.antt, of what
 -- holds after every history in proofs/Histories.antt, Stays.antt and Standing.antt, and of counts in proofs/Counted.antt,
 -- Tallied.antt and Told.antt.
-use Rattle.std.specs.Prelude.{ℕ, ◌+◌, ◌-◌, ◌%◌, ◌^◌, ◌≤◌, ◌<◌, ◌≡◌, ◌↔◌, List, [], ◌∷◌, Bool, length, get_or, set, Some, None}
+use Rattle.std.specs.Prelude.{ℕ, ◌+◌, ◌-◌, ◌%◌, ◌^◌, ◌≤◌, ◌<◌, ◌≡◌, ◌↔◌, List, [], ◌∷◌, Bool, length, get_or, set, Some, None, Ok}
 use Rattle.wire.specs.Check.{first_refusal, Passes}
 use Rattle.judging.specs.declared.Fields.{Fields}
-use Rattle.judging.specs.declared.Judged.TheVariants.{Accepted}
 use Rattle.judging.specs.Judging.{judged_of}
 use Rattle.states.specs.declared.record.State.TheVariants.{Initialize}
 use Rattle.states.specs.declared.step.Event.{Event}
@@ -69,7 +68,7 @@ ClockElsewhere =
 abbrev pub PacketElsewhere : Type 0
 PacketElsewhere =
     (words lists bytes room : List ℕ) (place : ℕ)
-    → ((fields : Fields) → judged_of bytes ≡ Accepted fields → router_place words fields.vrid ≡ Some place → ⊥)
+    → ((fields : Fields) → judged_of bytes ≡ Ok fields → router_place words fields.vrid ≡ Some place → ⊥)
     → record_at (heard_of words lists bytes room).words place ≡ record_at words place
 
 -- and configuring: every place but the free one that it takes

@@ -1,9 +1,8 @@
 -- The theorems of this crate, as statements: each is proved under the same name in proofs/, those of the table in
 -- Theorems.antt, of making a station in Begun.antt, of what steps keep in Keeping.antt and Staying.antt,
 -- of reading back in ReadBack.antt.
-use Rattle.std.specs.Prelude.{ℕ, ◌^◌, ◌<◌, ◌≡◌, List, Bool, eqb, replicate, None}
+use Rattle.std.specs.Prelude.{ℕ, ◌^◌, ◌<◌, ◌≡◌, List, Bool, eqb, replicate, None, Ok}
 use Rattle.sums.specs.Sum.{Bytes}
-use Rattle.judging.specs.declared.Judged.TheVariants.{Accepted}
 use Rattle.judging.specs.Judging.{judged_of}
 use Rattle.states.specs.declared.step.Event.{Event}
 use Rattle.states.specs.declared.step.Outcome.{Outcome}
@@ -97,7 +96,7 @@ LatestReadsBack =
     (s : Station) (o : Outcome) → WellFormed s → s.primary < 2 ^ 32 → Bytes (list_of s)
     → o.router.vrid ≡ s.router.vrid → o.router.priority ≡ s.router.priority
     → o.router.interval ≡ s.router.interval → ¬ (needed_by s o ≡ 0)
-    → (judged_of (packet_of (kept_by s o)) ≡ Accepted (advertised s o.writes))
+    → (judged_of (packet_of (kept_by s o)) ≡ Ok (advertised s o.writes))
     × (their_list (packet_of (kept_by s o)) (advertised s o.writes) ≡ list_of s)
 
 -- a well formed station stays so: startup and shutdown

@@ -8,7 +8,7 @@ use native.Mathlib.Omega.{arith}
 use lib.Dec.{eqb}
 use borrow.Author.Tests.{ne_eqb}
 use Rattle.judging.specs.declared.Fields.{Fields}
-use Rattle.judging.specs.declared.Judged.TheVariants.{Accepted, Refused as JudgedRefused}
+use Rattle.std.specs.Prelude.{Ok, Err, Some, None}
 use Rattle.judging.specs.Judging.{judged_of}
 use Rattle.judging.proofs.Accepted.{refused_most, refused_least}
 use Rattle.states.specs.declared.record.Turn.{Turn}
@@ -19,7 +19,6 @@ use Rattle.states.specs.declared.step.Writes.TheVariants.{Nothing as WritesNothi
 use Rattle.states.specs.Turn.{turn_of}
 use Rattle.states.proofs.Turning.{applied_turn}
 use Rattle.router.specs.Accept.{list_differs, router_refusal, accepted_of}
-use Rattle.std.specs.Prelude.{Some, None}
 use Rattle.places.specs.Place.{primary_of, record_at, set_event, count_refusal, count_at_place}
 use Rattle.events.specs.declared.answer.Answered.TheVariants.{Done, Refused}
 use Rattle.events.specs.Lists.{list_at, their_list, lists_match}
@@ -103,7 +102,7 @@ module _ (words lists packet room : List ℕ) where
         room_is = rw e;
       }
 
-  pub heard_unfit : (number : ℕ) (after : List ℕ) → judged_of packet ≡ JudgedRefused number → after ≡ count_refusal words number
+  pub heard_unfit : (number : ℕ) (after : List ℕ) → judged_of packet ≡ Err number → after ≡ count_refusal words number
       → Leaves (heard_of words lists packet room) (Refused number) after room
   unfolding heard_of
   heard_unfit number after e w =
@@ -117,7 +116,7 @@ module _ (words lists packet room : List ℕ) where
         room_is = rw e;
       }
 
-  pub heard_fit : (f : Fields) → judged_of packet ≡ Accepted f
+  pub heard_fit : (f : Fields) → judged_of packet ≡ Ok f
       → sought_at (router_place words f.vrid) words lists packet f room ≡ heard_of words lists packet room
   unfolding heard_of
   heard_fit f e = rw e

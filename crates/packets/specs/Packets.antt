@@ -1,9 +1,7 @@
 -- A packet that the host hands over (01, 'Refusal numbers', 'Counts').
-use Rattle.std.specs.Prelude.{ℕ, List, cond, eqb, Some, None}
+use Rattle.std.specs.Prelude.{ℕ, List, cond, eqb, Some, None, Ok, Err}
 use Rattle.judging.specs.declared.Fields.{Fields}
-use Rattle.judging.specs.declared.Judged.{Judged}
-use Rattle.judging.specs.declared.Judged.TheVariants.{Accepted, Refused}
-use Rattle.judging.specs.Judging.{judged_of}
+use Rattle.judging.specs.Judging.{Judged, judged_of}
 use Rattle.states.specs.declared.step.Event.TheVariants.{Packet}
 use Rattle.states.specs.declared.step.Outcome.{Outcome}
 use Rattle.states.specs.Step.{step_of}
@@ -38,8 +36,8 @@ sought_at (Some place) words lists packet fields room = heard_at words lists pla
 
 -- "Refusals 1 to 9 add one to that interface count"
 abbrev pub judged_at : Judged → List ℕ → List ℕ → List ℕ → List ℕ → Result
-judged_at (Refused number) words lists packet room = refuses number (count_refusal words number) room
-judged_at (Accepted fields) words lists packet room =
+judged_at (Err number) words lists packet room = refuses number (count_refusal words number) room
+judged_at (Ok fields) words lists packet room =
     sought_at (router_place words fields.vrid) words lists packet fields room
 
 -- a packet, of any bytes
