@@ -1,12 +1,14 @@
 // Reading, writing and finding a place.
 ghost use Rattle.std.specs.Prelude.{◌≡◌, ◌+◌, ◌<◌, ◌≤◌, length, ◌==◌};
 ghost use Rattle.std.proofs.Math.Seq.{paste};
+ghost use Rattle.wire.specs.Refusal.{refusal_number};
 ghost use Rattle.states.specs.Step.{state_number, with_state};
 ghost use Rattle.places.specs.Place.{record_at, set_record, state_word, set_event, count_at_place, place_of};
 
 use crate::layout::{decode, encode, state_of};
 use states::record::{Router, State};
 use states::step::state_number;
+use wire::refusal::Refusal;
 
 // Copies 16 words into the table from `at` on.
 fn put(words: &mut [u32], at: usize, from: &[u32; 16])
@@ -89,12 +91,13 @@ pub fn store_timer(words: &mut [u32], place: usize, ticks: u32)
 }
 
 // The table with a refusal of 10 to 13 counted for the router at a place.
-pub fn count_at_place(words: &mut [u32], place: usize, number: u32)
+pub fn count_at_place(words: &mut [u32], place: usize, refusal: Refusal)
     requires place_bound { (place < 255) × (length words.old ≡ 4096) }
-    requires le_number { (10 ≤ number) × (number ≤ 13) }
-    ensures { words.new ≡ count_at_place words.old place number }
+    requires le_number { (10 ≤ refusal_number refusal) × (refusal_number refusal ≤ 13) }
+    ensures { words.new ≡ count_at_place words.old place (refusal_number refusal) }
 {
-    let at = 16 + 16 * place + ((number - 1) as usize);
+    let number = refusal.number() as usize;
+    let at = 16 + 16 * place + (number - 1);
     words[at] = std::num::wrapping_add_u32(words[at], 1);
 }
 
