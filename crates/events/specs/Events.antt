@@ -1,7 +1,7 @@
 -- Startup, shutdown, clock and questions on the router of a VRID (01, 'Time', 'State by event').
 use Rattle.std.specs.Prelude.{Result as Ending, Ok, Err, ℕ, ◌≡◌, List, false, cond, ◌||◌, eqb, ltb, Some, None}
 use Rattle.wire.specs.declared.refusal.Refusal.{Refusal}
-use Rattle.wire.specs.Refusal.{refusal_number}
+use Rattle.wire.specs.Refusal.{refusal_number, room_needed}
 use Rattle.states.specs.declared.record.State.{State}
 use Rattle.states.specs.declared.record.State.TheVariants.{Initialize}
 use Rattle.states.specs.declared.record.Counts.{Counts}
@@ -70,6 +70,11 @@ abbrev pub status_of : Told → Status
 status_of (Ok r) = status_as 0 r
 status_of (Err reason) = status_as (refusal_number reason) no_router
 
+-- a status is one value of it: a question is refused for no want of room
+abbrev pub ProperTold : Told → Type 0
+ProperTold (Ok r) = Unit
+ProperTold (Err reason) = room_needed reason ≡ 0
+
 -- at the place that was found; 20 where it is not in the table
 abbrev pub asked_at : Found → List ℕ → Status
 asked_at None words = status_as 20 no_router
@@ -82,6 +87,7 @@ asked_of words vrid = asked_at (router_place words vrid) words
 -- the promise of a question
 pub record Tells (status : Status) (told : Told) : Type 0 where
   pub status_is : status_of told ≡ status
+  pub proper : ProperTold told
 
 -- "Per interface: 1 to 9": how often a refusal was given, 0 for a number that is not counted there
 unfoldable pub interface_count : List ℕ → ℕ → ℕ

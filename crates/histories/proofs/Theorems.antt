@@ -27,13 +27,10 @@ use Rattle.places.proofs.Parts.{part_other, apart}
 use Rattle.places.proofs.Records.{record_other}
 use Rattle.places.proofs.Words.{count_record}
 use Rattle.events.specs.Lists.{list_at, set_list}
-use Rattle.events.specs.declared.answer.Answered.{Answered}
-use Rattle.events.specs.declared.answer.Answered.TheVariants.{Done, Refused as CallRefused, Short}
-use Rattle.events.specs.declared.answer.Told.{Told}
-use Rattle.events.specs.declared.answer.Told.TheVariants.{Of, Refused as ToldRefused}
-use Rattle.events.specs.Result.{Answer, answer_of, Proper, Result, refuses, router_place, acted_of}
+use Rattle.wire.proofs.Refusals.{nonzero, same_refusal}
+use Rattle.events.specs.Result.{Answered, Answer, answer_of, Result, refuses, router_place, acted_of}
 use Rattle.configuring.specs.Configuring.{place_in, new_router, freed, configure_refusal, remove_refusal}
-use Rattle.events.specs.Events.{happened_at, happened_of, clocked_at, clocked_of, Status, status_of, ProperTold}
+use Rattle.events.specs.Events.{happened_at, happened_of, clocked_at, clocked_of, Status, Told, status_of, ProperTold}
 use Rattle.packets.specs.Packets.{refusal_at, accepted_at, sought_at, judged_at, heard_of}
 use Rattle.packets.proofs.Heard.{refused_range}
 use Rattle.histories.specs.Theorems.{OneResult, OneStatus, OneConfiguring, OneRemoving, EventElsewhere, ClockElsewhere}
@@ -42,33 +39,26 @@ use Rattle.histories.specs.Theorems.{LowestFreePlace, NoFreePlace}
 use Rattle.configuring.proofs.Configures.{configure_most, never_full, never_unknown}
 use Rattle.events.proofs.Sought.{sought_below}
 
--- an answer is one value of the enum
-one_answer : (a b : Answered) → Proper a → Proper b → answer_of a ≡ answer_of b → a ≡ b
-one_answer (Done w l) (Done x k) p q e = rw (ap (λ (c : Answer). c.written) e, ap (λ (c : Answer). c.leftover) e)
-one_answer (Done w l) (CallRefused n) p q e = absurd (q.0 (sym (ap (λ (c : Answer). c.number) e)))
-one_answer (Done w l) (Short need) p q e =
-    absurd (let z : ◌≡◌ {A = ℕ} 0 22 = ap (λ (c : Answer). c.number) e in omega arith)
-one_answer (CallRefused n) (Done x k) p q e = absurd (p.0 (ap (λ (c : Answer). c.number) e))
-one_answer (CallRefused n) (CallRefused m) p q e = ap CallRefused (ap (λ (c : Answer). c.number) e)
-one_answer (CallRefused n) (Short need) p q e = absurd (p.1 (ap (λ (c : Answer). c.number) e))
-one_answer (Short need) (Done x k) p q e =
-    absurd (let z : ◌≡◌ {A = ℕ} 22 0 = ap (λ (c : Answer). c.number) e in omega arith)
-one_answer (Short need) (CallRefused n) p q e = absurd (q.1 (sym (ap (λ (c : Answer). c.number) e)))
-one_answer (Short need) (Short other) p q e = ap Short (ap (λ (c : Answer). c.need) e)
+-- an answer is one value of its type
+one_answer : (a b : Answered) → answer_of a ≡ answer_of b → a ≡ b
+one_answer (Ok d) (Ok o) e = rw (ap (λ (c : Answer). c.written) e, ap (λ (c : Answer). c.leftover) e)
+one_answer (Ok d) (Err r) e = absurd (nonzero r (sym (ap (λ (c : Answer). c.number) e)))
+one_answer (Err r) (Ok d) e = absurd (nonzero r (ap (λ (c : Answer). c.number) e))
+one_answer (Err r) (Err q) e = ap Err (same_refusal r q (ap (λ (c : Answer). c.number) e) (ap (λ (c : Answer). c.need) e))
 
 pub one_result : OneResult
 one_result result a b words other room other_room x y = (
-  one_answer a b x.proper y.proper (x.answer_is ∙ sym y.answer_is),
+  one_answer a b (x.answer_is ∙ sym y.answer_is),
   x.words_are ∙ sym y.words_are,
   x.room_is ∙ sym y.room_is,
 )
 
 -- and so is a status
 told_test : (a b : Told) → ProperTold a → ProperTold b → status_of a ≡ status_of b → a ≡ b
-told_test (Of r) (Of s) p q e = ap Of (ap (λ (x : Status). x.router) e)
-told_test (Of r) (ToldRefused n) p q e = absurd (q (sym (ap (λ (x : Status). x.number) e)))
-told_test (ToldRefused n) (Of s) p q e = absurd (p (ap (λ (x : Status). x.number) e))
-told_test (ToldRefused n) (ToldRefused m) p q e = ap ToldRefused (ap (λ (x : Status). x.number) e)
+told_test (Ok r) (Ok s) p q e = ap Ok (ap (λ (x : Status). x.router) e)
+told_test (Ok r) (Err n) p q e = absurd (nonzero n (sym (ap (λ (x : Status). x.number) e)))
+told_test (Err n) (Ok s) p q e = absurd (nonzero n (ap (λ (x : Status). x.number) e))
+told_test (Err n) (Err m) p q e = ap Err (same_refusal n m (ap (λ (x : Status). x.number) e) (p ∙ sym q))
 
 pub one_status : OneStatus
 one_status status a b x y = told_test a b x.proper y.proper (x.status_is ∙ sym y.status_is)

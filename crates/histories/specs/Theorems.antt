@@ -10,13 +10,11 @@ use Rattle.states.specs.declared.record.State.TheVariants.{Initialize}
 use Rattle.states.specs.declared.step.Event.{Event}
 use Rattle.states.specs.Step.{counted, stays, step_of}
 use Rattle.places.specs.Place.{base_of, primary_of, record_at, place_of}
-use Rattle.events.specs.declared.answer.Answered.{Answered}
-use Rattle.events.specs.declared.answer.Told.{Told}
 use Rattle.events.specs.Lists.{list_at}
-use Rattle.events.specs.Result.{Result, Leaves, router_place}
+use Rattle.events.specs.Result.{Answered, Result, Leaves, router_place}
 use Rattle.configuring.specs.Configuring.{no_counts, Configured, configured_words, configured_lists, Removed, removed_words}
 use Rattle.configuring.specs.Configuring.{configure_checks, configure_refusal, remove_checks, remove_refusal}
-use Rattle.events.specs.Events.{happened_of, clocked_of, Status, asked_of, Tells, interface_count}
+use Rattle.events.specs.Events.{happened_of, clocked_of, Status, Told, asked_of, Tells, interface_count}
 use Rattle.packets.specs.Packets.{heard_of}
 use Rattle.histories.specs.Histories.{Call, configure, called, after, begun, Given, GivenAll, Unique, Sound, refusals_in}
 use Rattle.histories.specs.Standing.{Standing, NotRemoved}
