@@ -1,6 +1,6 @@
 -- How the header's and the message's checks decide a packet together, in the steps of `judge`.
 -- Assumes nothing.
-use mathlib.Core.Path.{◌≡◌, refl, sym, ◌∙◌}
+use mathlib.Core.Path.{◌≡◌, refl, sym, ap, ◌∙◌}
 use mathlib.Core.Bool.{Bool, true, false, cond}
 use mathlib.Core.List.{List}
 use Prim.Native.Nat.{ℕ, ◌+◌, ◌-◌, ◌≤◌}
@@ -10,14 +10,15 @@ use lib.ListN.{length, take, drop}
 use borrow.Author.Tests.{eqb-true, eq-eqb, ne_eqb}
 use Rattle.wire.specs.declared.refusal.Refusal.{Refusal}
 use Rattle.wire.specs.Check.{first_refusal}
-use Rattle.wire.specs.Refusal.{refusal_number}
+use Rattle.wire.specs.Refusal.{refusal_number, number_answered, numbered}
 use Rattle.wire.proofs.Refusals.{nonzero}
 use Rattle.judging.specs.declared.Fields.{Fields}
-use Rattle.std.specs.Prelude.{Ok, Err}
+use Rattle.std.specs.Prelude.{Result, Ok, Err, is_ok}
+use Rattle.std.proofs.lemmas.Bool.{true≢false, false≢true}
 use Rattle.wire.specs.Reading.{number_at}
 use Rattle.headers.specs.Packet.{header_length, total_length, header_checks, payload}
 use Rattle.judging.specs.Message.{message_checks}
-use Rattle.judging.specs.Judging.{refusal_of, fields_in, fields_of, judged_of, judged_number}
+use Rattle.judging.specs.Judging.{refusal_of, fields_in, fields_of, judged_of}
 use Rattle.wire.proofs.Tested.{tests}
 use Rattle.wire.proofs.Checks.{passed, refusal_after, refusal_before}
 use Rattle.headers.proofs.Readable.{Readable, readable}
@@ -85,11 +86,14 @@ module _ (packet : List ℕ) (start end : ℕ) (cut : Cut packet start end) wher
       accepts packet fields (sym part_decides ∙ e) (f ∙ rw (part_is, s, cut.start_is))
 
 -- the number of a packet's answer is its refusal
-judged_number_test : (t : Bool) (packet : List ℕ) → eqb (refusal_of packet) 0 ≡ t
-    → judged_number (cond t (Ok (fields_of packet)) (Err (refusal_of packet))) ≡ refusal_of packet
-judged_number_test true packet e = sym (eqb-true (refusal_of packet) 0 e)
-judged_number_test false packet e = refl
+number_test : (t : Bool) (packet : List ℕ) (answer : Result Fields Refusal) → eqb (refusal_of packet) 0 ≡ t
+    → numbered answer ≡ cond t (Ok (fields_of packet)) (Err (refusal_of packet)) → number_answered answer ≡ refusal_of packet
+number_test true packet (Ok fields) e j = sym (eqb-true (refusal_of packet) 0 e)
+number_test true packet (Err refusal) e j = absurd (false≢true (ap is_ok j))
+number_test false packet (Ok fields) e j = absurd (true≢false (ap is_ok j))
+number_test false packet (Err refusal) e j = cc
 
-pub judged_number_lem : (packet : List ℕ) → judged_number (judged_of packet) ≡ refusal_of packet
+pub number_judged : (packet : List ℕ) (answer : Result Fields Refusal) → numbered answer ≡ judged_of packet
+    → number_answered answer ≡ refusal_of packet
 unfolding judged_of
-judged_number_lem packet = judged_number_test (eqb (refusal_of packet) 0) packet refl
+number_judged packet answer j = number_test (eqb (refusal_of packet) 0) packet answer refl j

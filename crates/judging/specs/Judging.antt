@@ -38,8 +38,3 @@ Judged = Result Fields ℕ
 -- "A packet is accepted exactly when it passes every check"
 unfoldable pub judged_of : List ℕ → Judged
 judged_of packet = cond (eqb (refusal_of packet) 0) (Ok (fields_of packet)) (Err (refusal_of packet))
-
--- 01's number for an answer
-abbrev pub judged_number : Judged → ℕ
-judged_number (Ok fields) = 0
-judged_number (Err number) = number
