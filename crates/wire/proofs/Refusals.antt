@@ -1,6 +1,5 @@
 -- The laws of refusals and their numbers.
 --     within, nonzero  a refusal's number is 1 to 30
---     no_room          only 22 needs room
 --     same_refusal     equal numbers and equal rooms needed are equal refusals
 --     no_room          only 22 has a room that is needed
 --     same_number      so any other number alone says the refusal
@@ -140,38 +139,6 @@ within ScriptTooLong = omega arith
 
 pub nonzero : (r : Refusal) → ¬ (refusal_number r ≡ 0)
 nonzero r e = omega (arith, within r)
-
-pub no_room : (r : Refusal) → ¬ (refusal_number r ≡ 22) → room_needed r ≡ 0
-no_room IpHeader n = refl
-no_room IpChecksum n = refl
-no_room NotOurs n = refl
-no_room Ttl n = refl
-no_room Version n = refl
-no_room TooShort n = refl
-no_room Checksum n = refl
-no_room MessageType n = refl
-no_room UnknownVrid n = refl
-no_room AddressOwner n = refl
-no_room Authentication n = refl
-no_room AddressList n = refl
-no_room OtherInterval n = refl
-no_room VridZero n = refl
-no_room PriorityZero n = refl
-no_room IntervalZero n = refl
-no_room AddressBytes n = refl
-no_room VridTaken n = refl
-no_room NoFreePlace n = refl
-no_room NoRouter n = refl
-no_room NotInInitialize n = refl
-no_room (Room needed) n = absurd (n refl)
-no_room UnknownKind n = refl
-no_room BodyCutOff n = refl
-no_room NotOneSegment n = refl
-no_room UnusedStation n = refl
-no_room SeventeenthStation n = refl
-no_room NothingToDeliver n = refl
-no_room PreemptAboveOne n = refl
-no_room ScriptTooLong n = refl
 
 pub accepted : {T : Type 0} (answer : Result T Refusal) → number_answered answer ≡ 0 → (value : T) × (answer ≡ Ok value)
 accepted (Ok value) e = (value, refl)
