@@ -3,23 +3,14 @@ use records::page::Page;
 use states::record::State;
 use station::station::Station;
 
-// The letter of a state.
-fn letter(state: State) -> u8 {
-    match state {
-        State::Initialize => b'I',
-        State::Backup => b'B',
-        State::Master => b'M',
-    }
-}
-
 pub fn put_letters(page: &mut Page, stations: &[Station]) {
     for station in stations {
-        page.byte(letter(station.router.state));
+        page.byte(station.router.state.letter());
     }
 }
 
 fn is_master(station: &Station) -> bool {
-    matches!(station.router.state, State::Master)
+    station.router.state == State::Master
 }
 
 // Puts the number of the one Master, or a dash where there is none or there are several.

@@ -2,7 +2,7 @@
 use crate::call::Call;
 use events::answer::{Answered, Told};
 use records::page::Page;
-use states::record::{Router, State};
+use states::record::Router;
 use table::calls::{interface_count, question};
 
 // Puts how a call ended: its number, the room needed and the leftover.
@@ -24,18 +24,9 @@ fn put_answer(page: &mut Page, answered: Answered) {
     page.next(leftover);
 }
 
-// The letter of a state.
-fn letter(state: State) -> u8 {
-    match state {
-        State::Initialize => b'I',
-        State::Backup => b'B',
-        State::Master => b'M',
-    }
-}
-
 // Puts the state, the remaining timer and the counts of a router.
 fn put_router(page: &mut Page, router: Router) {
-    page.byte(letter(router.state));
+    page.byte(router.state.letter());
     let counts = router.counts;
     page.next(router.timer);
     page.next(counts.accepted);
