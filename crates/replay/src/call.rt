@@ -1,10 +1,11 @@
 // The call that a record makes.
-use events::answer::{Answered, Told};
-use judging::{Judged, judge};
+use events::answer::Done;
+use judging::judge;
 use records::reading::{Fault, read_bytes, read_flag, read_room, read_u8, read_u32};
 use std::alloc::Global;
 use std::io::Read;
 use table::calls::{clock, configure, empty, packet, question, remove, shutdown, startup};
+use wire::refusal::Refusal;
 
 // A call, with what it is given and the room that is lent to it.
 #[derive(Drop)]
@@ -45,12 +46,15 @@ pub enum Call {
     },
 }
 
+// How a call without a room is done.
+const DONE: Done = Done {
+    written: 0,
+    leftover: 0,
+};
+
 // The VRID that a packet bears, or 0, which no router has, where it is refused by 1 to 8.
 fn borne(packet: &[u8]) -> u8 {
-    match judge(packet) {
-        Judged::Accepted(fields) => fields.vrid,
-        Judged::Refused(_) => 0,
-    }
+    judge(packet).map_or(0, |fields| fields.vrid)
 }
 
 impl Call {
@@ -95,11 +99,15 @@ impl Call {
     }
 
     // Makes the call.
-    pub fn make(&mut self, words: &mut [u32; 4096], lists: &mut [u8; 16320]) -> Answered {
+    pub fn make(
+        &mut self,
+        words: &mut [u32; 4096],
+        lists: &mut [u8; 16320],
+    ) -> Result<Done, Refusal> {
         match self {
             Call::Empty { primary } => {
                 empty(words, *primary);
-                Answered::Done(0, 0)
+                Ok(DONE)
             }
             Call::Configure {
                 vrid,
@@ -107,18 +115,16 @@ impl Call {
                 interval,
                 preempt,
                 addresses,
-            } => Answered::Refused(configure(
+            } => configure(
                 words, lists, *vrid, *priority, *interval, *preempt, addresses,
-            )),
-            Call::Remove { vrid } => Answered::Refused(remove(words, *vrid)),
+            )
+            .and(Ok(DONE)),
+            Call::Remove { vrid } => remove(words, *vrid).and(Ok(DONE)),
             Call::Startup { vrid, room } => startup(words, lists, *vrid, room),
             Call::Shutdown { vrid, room } => shutdown(words, lists, *vrid, room),
             Call::Clock { vrid, ticks, room } => clock(words, lists, *vrid, *ticks, room),
             Call::Packet { room, bytes } => packet(words, lists, bytes, room),
-            Call::Question { vrid } => match question(words, *vrid) {
-                Told::Of(_) => Answered::Done(0, 0),
-                Told::Refused(number) => Answered::Refused(number),
-            },
+            Call::Question { vrid } => question(words, *vrid).and(Ok(DONE)),
         }
     }
 

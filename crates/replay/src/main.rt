@@ -17,7 +17,7 @@ fn main(rt: HostRuntime) -> io::Result<()> {
     empty(&mut words, 0);
     answer_all(&mut rt.stdin(), &mut rt.stdout(), |kind, input| {
         let mut call = Call::read(rt.alloc(), kind, input)?;
-        let answered = call.make(&mut words, &mut lists);
-        Ok(line_of(&call, answered, &words))
+        let answer = call.make(&mut words, &mut lists);
+        Ok(line_of(&call, answer, &words))
     })
 }
