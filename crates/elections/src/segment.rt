@@ -1,8 +1,9 @@
 // The stations of a record, as far as each has come, and the deliveries among them.
-use records::reading::{Fault, read_flag, read_u8, read_u16, read_u32};
+use records::reading::{Fault, read_flag};
 use station::making::new_station;
 use station::station::Station;
 use stations::list::{clock, deliver, startup};
+use byteorder::{BigEndian, ReadBytesExt};
 use std::alloc::{AllocError, Global};
 use std::io::Read;
 
@@ -31,12 +32,12 @@ impl TryFrom<u8> for Come {
 // Reads a station: priority, preempt, primary address. It has virtual router 1, an interval of one second and the virtual
 // address 192.168.1.254.
 fn read_made<R: Read>(input: &mut R) -> Result<Station, Fault> {
-    let priority = read_u8(input)?;
+    let priority = input.read_u8()?;
     if priority == 0 {
         return Err(Fault::BadRecord);
     }
     let preempt = read_flag(input)?;
-    let primary = read_u32(input)?;
+    let primary = input.read_u32::<BigEndian>()?;
     let made = new_station(1, priority, 1, preempt, primary, &[192, 168, 1, 254]);
     Ok(made.station)
 }
@@ -65,7 +66,7 @@ pub fn read_stations<R: Read>(
     for at in 0..usize::from(count) {
         let made = read_made(input)?;
         stations.push(made).map_err(AllocError::from)?;
-        bring(&mut stations, at, Come::try_from(read_u8(input)?)?);
+        bring(&mut stations, at, Come::try_from(input.read_u8()?)?);
     }
     Ok(stations)
 }
@@ -73,9 +74,9 @@ pub fn read_stations<R: Read>(
 // Reads the deliveries, from and to, and hands each advertisement over as it comes.
 pub fn hand_over<R: Read>(input: &mut R, stations: &mut [Station]) -> Result<(), Fault> {
     let mut room = [0; 786];
-    for _ in 0..read_u16(input)? {
-        let from = usize::from(read_u8(input)?);
-        let to = usize::from(read_u8(input)?);
+    for _ in 0..input.read_u16::<BigEndian>()? {
+        let from = usize::from(input.read_u8()?);
+        let to = usize::from(input.read_u8()?);
         if from >= stations.len() || to >= stations.len() {
             return Err(Fault::BadRecord);
         }

@@ -2,8 +2,8 @@
 ghost use Rattle.std.specs.Prelude.{◌≤◌, take, OnOk};
 ghost use Rattle.std.specs.Io.KnownBytes.{Appends};
 
+use std::io;
 use std::io::Write;
-use std::{fmt, io};
 use text::{put, put_address, put_byte, put_decimal, put_hex_or_dash, put_next};
 use wire::refusal::{Refusal, number_of};
 

@@ -2,9 +2,10 @@
 ghost use Rattle.std.specs.Prelude.{◌≤◌, ◌<◌, IfOk, length, take};
 ghost use Rattle.std.specs.Io.KnownBytes.{Consumes, IsAtEnd};
 
+use byteorder::{BigEndian, ReadBytesExt};
 use std::alloc::{AllocError, Global};
 use std::io;
-use std::io::Read;
+use std::io::{ErrorKind, Read};
 
 // Why a record is not answered.
 #[derive(Debug, Drop)]
@@ -17,7 +18,10 @@ pub enum Fault {
 
 impl From<io::Error> for Fault {
     fn from(error: io::Error) -> Fault {
-        Fault::Failed(error)
+        match error.kind() {
+            ErrorKind::UnexpectedEof => Fault::BadRecord,
+            _ => Fault::Failed(error),
+        }
     }
 }
 
@@ -44,30 +48,9 @@ pub fn read_full<R: Read>(input: &mut R, part: &mut [u8]) -> io::Result<usize>
     Ok(done)
 }
 
-// Reads a part of a record.
-pub fn read_part<R: Read, const N: usize>(input: &mut R) -> Result<[u8; N], Fault> {
-    let mut part = [0; N];
-    if read_full(input, &mut part)? < N {
-        return Err(Fault::BadRecord);
-    }
-    Ok(part)
-}
-
-pub fn read_u8<R: Read>(input: &mut R) -> Result<u8, Fault> {
-    Ok(u8::from_be_bytes(read_part(input)?))
-}
-
-pub fn read_u16<R: Read>(input: &mut R) -> Result<u16, Fault> {
-    Ok(u16::from_be_bytes(read_part(input)?))
-}
-
-pub fn read_u32<R: Read>(input: &mut R) -> Result<u32, Fault> {
-    Ok(u32::from_be_bytes(read_part(input)?))
-}
-
 // Reads a byte that is 0 or 1.
 pub fn read_flag<R: Read>(input: &mut R) -> Result<bool, Fault> {
-    match read_u8(input)? {
+    match input.read_u8()? {
         0 => Ok(false),
         1 => Ok(true),
         _ => Err(Fault::BadRecord),
@@ -76,17 +59,15 @@ pub fn read_flag<R: Read>(input: &mut R) -> Result<bool, Fault> {
 
 // Reads how many bytes there are, and those.
 pub fn read_bytes<R: Read>(alloc: Global, input: &mut R) -> Result<Vec<u8>, Fault> {
-    let size = usize::from(read_u16(input)?);
+    let size = usize::from(input.read_u16::<BigEndian>()?);
     let mut bytes = vec![in alloc; 0; size]?;
-    if read_full(input, &mut bytes)? < size {
-        return Err(Fault::BadRecord);
-    }
+    input.read_exact(&mut bytes)?;
     Ok(bytes)
 }
 
 // Reads how large a room is, at most 1,023 bytes. It is all 0xA5, so that a byte that was left alone shows.
 pub fn read_room<R: Read>(alloc: Global, input: &mut R) -> Result<Vec<u8>, Fault> {
-    let size = usize::from(read_u16(input)?);
+    let size = usize::from(input.read_u16::<BigEndian>()?);
     if size > 1023 {
         return Err(Fault::BadRecord);
     }

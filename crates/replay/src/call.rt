@@ -1,7 +1,8 @@
 // The call that a record makes.
+use byteorder::{BigEndian, ReadBytesExt};
 use events::answer::Done;
 use judging::judge;
-use records::reading::{Fault, read_bytes, read_flag, read_room, read_u8, read_u32};
+use records::reading::{Fault, read_bytes, read_flag, read_room};
 use std::alloc::Global;
 use std::io::Read;
 use table::calls::{clock, configure, empty, packet, question, remove, shutdown, startup};
@@ -62,29 +63,29 @@ impl Call {
     pub fn read<R: Read>(alloc: Global, kind: u8, input: &mut R) -> Result<Call, Fault> {
         match kind {
             1 => Ok(Call::Empty {
-                primary: read_u32(input)?,
+                primary: input.read_u32::<BigEndian>()?,
             }),
             2 => Ok(Call::Configure {
-                vrid: read_u8(input)?,
-                priority: read_u8(input)?,
-                interval: read_u8(input)?,
+                vrid: input.read_u8()?,
+                priority: input.read_u8()?,
+                interval: input.read_u8()?,
                 preempt: read_flag(input)?,
                 addresses: read_bytes(alloc, input)?,
             }),
             3 => Ok(Call::Remove {
-                vrid: read_u8(input)?,
+                vrid: input.read_u8()?,
             }),
             4 => Ok(Call::Startup {
-                vrid: read_u8(input)?,
+                vrid: input.read_u8()?,
                 room: read_room(alloc, input)?,
             }),
             5 => Ok(Call::Shutdown {
-                vrid: read_u8(input)?,
+                vrid: input.read_u8()?,
                 room: read_room(alloc, input)?,
             }),
             6 => Ok(Call::Clock {
-                vrid: read_u8(input)?,
-                ticks: read_u32(input)?,
+                vrid: input.read_u8()?,
+                ticks: input.read_u32::<BigEndian>()?,
                 room: read_room(alloc, input)?,
             }),
             7 => Ok(Call::Packet {
@@ -92,7 +93,7 @@ impl Call {
                 bytes: read_bytes(alloc, input)?,
             }),
             8 => Ok(Call::Question {
-                vrid: read_u8(input)?,
+                vrid: input.read_u8()?,
             }),
             _ => Err(Fault::BadRecord),
         }

@@ -1,5 +1,6 @@
 // A case as it is read.
-use records::reading::{Fault, read_bytes, read_room, read_u8, read_u32};
+use byteorder::{BigEndian, ReadBytesExt};
+use records::reading::{Fault, read_bytes, read_room};
 use std::alloc::Global;
 use std::io::Read;
 
@@ -34,17 +35,17 @@ impl Case {
             }),
             // VRID, priority, interval, primary address, room, how many address bytes, and those
             2 => Ok(Case::Advertisement {
-                vrid: read_u8(input)?,
-                priority: read_u8(input)?,
-                interval: read_u8(input)?,
-                primary: read_u32(input)?,
+                vrid: input.read_u8()?,
+                priority: input.read_u8()?,
+                interval: input.read_u8()?,
+                primary: input.read_u32::<BigEndian>()?,
                 room: read_room(alloc, input)?,
                 addresses: read_bytes(alloc, input)?,
             }),
             // VRID, address, room
             3 => Ok(Case::Arp {
-                vrid: read_u8(input)?,
-                address: read_u32(input)?,
+                vrid: input.read_u8()?,
+                address: input.read_u32::<BigEndian>()?,
                 room: read_room(alloc, input)?,
             }),
             _ => Err(Fault::BadRecord),
