@@ -1,15 +1,8 @@
 // A page for each record of an input.
 use crate::page::Page;
-use crate::reading::{Fault, read_full};
+use crate::reading::Fault;
 use std::io;
 use std::io::{Read, Write};
-
-// Reads the byte that a record begins with, if there is a next record.
-fn read_first<R: Read>(input: &mut R) -> io::Result<Option<u8>> {
-    let mut part = [0];
-    let came = read_full(input, &mut part)?;
-    Ok(part[..came].first().copied())
-}
 
 // Writes the page that answers each record, up to the end of the input or to a bad record, which the last line says.
 // `answer` is given the byte that the record begins with, and reads the rest of it.
@@ -22,7 +15,7 @@ where
 {
     // a loop has to end, and nothing says that the input does
     for _ in 0..u64::MAX {
-        let Some(first) = read_first(input)? else {
+        let Some(first) = input.by_ref().bytes().next().transpose()? else {
             break;
         };
         match answer(first, input) {
