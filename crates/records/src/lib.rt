@@ -3,4 +3,4 @@
 
 pub mod answering; // a page for each record
 pub mod page; // what is printed
-pub mod reading; // bytes as they come
+pub mod reading; // parts of a record

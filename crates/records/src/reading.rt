@@ -1,7 +1,4 @@
-// Bytes as they come from an input, and the numbers and rooms of records.
-ghost use Rattle.std.specs.Prelude.{◌≤◌, ◌<◌, IfOk, length, take};
-ghost use Rattle.std.specs.Io.KnownBytes.{Consumes, IsAtEnd};
-
+// Parts of a record as they come from an input.
 use byteorder::{BigEndian, ReadBytesExt};
 use std::alloc::{AllocError, Global};
 use std::io;
@@ -29,23 +26,6 @@ impl From<AllocError> for Fault {
     fn from(error: AllocError) -> Fault {
         Fault::Failed(io::Error::from(error))
     }
-}
-
-// Reads until `part` is full or the input ends, and answers how many bytes came.
-pub fn read_full<R: Read>(input: &mut R, part: &mut [u8]) -> io::Result<usize>
-    ensures within { IfOk result (λ n. n ≤ length part.new) }
-    ensures bytes { IfOk result (λ n. Consumes (R.remaining input.old) (R.remaining input.new) (take n part.new)) }
-    ensures end { IfOk result (λ n. n < length part.new → IsAtEnd (R.remaining input.new)) }
-{
-    let mut done = 0;
-    while done < part.len() {
-        let more = input.read(&mut part[done..])?;
-        if more == 0 {
-            return Ok(done);
-        }
-        done += more;
-    }
-    Ok(done)
 }
 
 // Reads a byte that is 0 or 1.
