@@ -1,4 +1,5 @@
 // Text put into a lent buffer at a place: each function answers the place after what it put, or the buffer's end.
+// Kept: a buffer and a place, and no struct of both, since `printing` cites `Appended` of the two and lends its own buffer.
 #![tactic(auto)]
 
 ghost use Rattle.std.specs.Prelude.{◌≡◌, ◌∷◌, [], ◌<◌};
