@@ -16,7 +16,7 @@ fn rehearse<W: Write>(output: &mut W, script: &[u8]) -> io::Result<()>
 {
     let mut out = [0u8; 65536];
     let mut now = start();
-    while !now.done {
+    while !now.reading.done {
         let ran = run(script, now, &mut out);
         let next = ran.progress;
         let written = ran.written;
