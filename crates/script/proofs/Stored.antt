@@ -1,12 +1,9 @@
 -- What is read of a list of stations, and the station that is not there: what the functions of `segment` cite.
 -- Assumes nothing.
-use mathlib.Core.Path.{◌≡◌, refl, sym, ap}
+use mathlib.Core.Path.{◌≡◌, ap}
 use mathlib.Core.Bool.{false}
-use mathlib.Core.List.{List, [], ◌∷◌}
-use Prim.Native.Nat.{ℕ, zero, suc, ◌<◌, ◌≤◌}
-use native.Mathlib.Omega.{arith}
-use lib.ListN.{length, get_or, get_or-eq_default}
-use Rattle.station.specs.declared.station.Station.{Station}
+use mathlib.Core.List.{List}
+use Prim.Native.Nat.{ℕ}
 use Rattle.station.specs.declared.station.Stepped.{Stepped}
 use Rattle.station.specs.Making.{made_of, station_refusal}
 use Rattle.stations.specs.List.{nowhere}
