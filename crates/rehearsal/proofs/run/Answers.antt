@@ -1,6 +1,7 @@
 -- `rehearsal::run` meets its contract.
 -- Assumes nothing.
 use Prim.Native.Nat.{◌-◌}
+use native.Mathlib.Omega.{arith}
 use lib.ListN.{length}
 use Rattle.script.specs.Progress.{progress_of}
 use Rattle.rehearsal.proofs.Stepping.{turn, stopped, left_less, goes_on, stops_short, stops_done, printed_as, turn_progress, turn_line}
@@ -19,7 +20,7 @@ loop-reading-preserved c =
     let turned = c.turn_of-turn.ensures in
     let moved = c.stations_left-after.ensures in
     turn loop.invariant _ _ _
-    (goes_on here (length loop.out - loop.written) c.loop-reading-test.true c.if-out-written-ge32.true)
+    (goes_on here (length loop.out - loop.written) c.loop-reading-test.true (omega arith))
     (turn_progress turned moved)
     (printed_as (turn_line turned moved) c.put_turn-written.ensures)
 
@@ -27,7 +28,7 @@ pub returns-else-out-written-ge32 : goal.returns-else-out-written-ge32
 returns-else-out-written-ge32 c =
     let loop = c.loop-reading in
     let here = progress_of loop.stations loop.reading in
-    stopped loop.invariant (stops_short here (length loop.out - loop.written) c.if-out-written-ge32.false)
+    stopped loop.invariant (stops_short here (length loop.out - loop.written) (omega arith))
 
 pub returns-after-loop-reading : goal.returns-after-loop-reading
 returns-after-loop-reading c =

