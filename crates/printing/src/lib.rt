@@ -25,8 +25,8 @@ fn letter_of(state: State) -> u8
 }
 
 // Puts a space and a letter for each station that is used, as much as fits.
-fn put_letters(out: &mut [u8], at: usize, stations: [Station; 16], used: usize) -> usize
-    ensures { Appended out.old at (32 ∷ letters_of used stations) out.new result }
+fn put_letters(out: &mut [u8], at: usize, stations: &[Station; 16], used: usize) -> usize
+    ensures { Appended out.old at (32 ∷ letters_of used stations.now) out.new result }
 {
     let mut next = put_byte(out, at, b' ');
     for station in stations.iter().take(used) {
@@ -36,9 +36,9 @@ fn put_letters(out: &mut [u8], at: usize, stations: [Station; 16], used: usize) 
 }
 
 // Puts the line of a record that was taken.
-fn put_line(out: &mut [u8], number: u32, stations: [Station; 16], reading: Reading) -> usize
+fn put_line(out: &mut [u8], number: u32, stations: &[Station; 16], reading: Reading) -> usize
     requires { 32 ≤ length out.old }
-    ensures { Printed (line_of number (segment_of stations reading)) out.old result out.new }
+    ensures { Printed (line_of number (segment_of stations.now reading)) out.old result out.new }
 {
     let mut next = put_decimal(out, 0, number as u64);
     next = put_letters(out, next, stations, reading.used);
@@ -50,11 +50,11 @@ pub fn put_printed(
     out: &mut [u8],
     kind: Kind,
     number: u32,
-    stations: [Station; 16],
+    stations: &[Station; 16],
     reading: Reading,
 ) -> usize
     requires { 32 ≤ length out.old }
-    ensures { Printed (printed_of (Some kind) number (segment_of stations reading)) out.old result out.new }
+    ensures { Printed (printed_of (Some kind) number (segment_of stations.now reading)) out.old result out.new }
 {
     if matches!(kind, Kind::NewSegment | Kind::NewStation) {
         return 0;

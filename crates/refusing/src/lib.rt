@@ -63,9 +63,9 @@ fn number_refusal(used: usize, body: &[u8]) -> Result<(), Refusal>
 }
 
 // The first of 26 and 28 that refuses a deliver record.
-fn deliver_refusal(stations: [Station; 16], used: usize, body: &[u8]) -> Result<(), Refusal>
+fn deliver_refusal(stations: &[Station; 16], used: usize, body: &[u8]) -> Result<(), Refusal>
     requires { 2 ≤ length body.now }
-    ensures { number_answered result ≡ first_refusal (deliver_checks used stations body.now) }
+    ensures { number_answered result ≡ first_refusal (deliver_checks used stations.now body.now) }
 {
     let from = body[0] as usize;
     let to = body[1] as usize;
@@ -85,8 +85,8 @@ fn deliver_refusal(stations: [Station; 16], used: usize, body: &[u8]) -> Result<
 }
 
 // The first refusal of a kind's own.
-fn kind_refusal(stations: [Station; 16], used: usize, taken: Record) -> Result<(), Refusal>
-    ensures { number_answered result ≡ first_refusal (kind_checks (Some taken.entry.kind) used stations taken.entry.body.now) }
+fn kind_refusal(stations: &[Station; 16], used: usize, taken: Record) -> Result<(), Refusal>
+    ensures { number_answered result ≡ first_refusal (kind_checks (Some taken.entry.kind) used stations.now taken.entry.body.now) }
 {
     let body = taken.body;
     match taken.kind {
@@ -101,12 +101,12 @@ fn kind_refusal(stations: [Station; 16], used: usize, taken: Record) -> Result<(
 
 // The record of this kind whose body begins these bytes, or the first refusal of it.
 pub fn taken_record<'a>(
-    stations: [Station; 16],
+    stations: &[Station; 16],
     reading: Reading,
     byte: u8,
     body: &'a [u8],
 ) -> Result<Record<'a>, Refusal>
-    ensures refused { number_answered result ≡ refusal_of (segment_of stations reading) (kind_of byte) body.now }
+    ensures refused { number_answered result ≡ refusal_of (segment_of stations.now reading) (kind_of byte) body.now }
     ensures taken { IfOk result (λ r. (Some r.kind ≡ kind_of byte) × (r.body.now ≡ body.now)) }
 {
     let taken = record_of(reading.begun, byte, body)?;

@@ -45,10 +45,10 @@ pub fn run(script: &[u8], progress: Progress, out: &mut [u8]) -> Ran
     } = progress;
     let mut written = 0;
     while !reading.done && out.len() - written >= 32 {
-        let turn = turn_of(script, stations, reading);
+        let turn = turn_of(script, &stations, reading);
         let after = stations_left(turn, stations, reading);
         stations = after;
-        written += put_turn(&mut out[written..], turn, stations);
+        written += put_turn(&mut out[written..], turn, &stations);
         reading = turn.reading;
     }
     Ran {

@@ -13,8 +13,8 @@ pub fn no_stations() -> [Station; 16]
 }
 
 // How long the latest advertisement frame of a station is; past the end nothing was sent.
-pub fn sent_by(stations: [Station; 16], at: usize) -> usize
-    ensures { result ≡ (get_or stations at nowhere).sent }
+pub fn sent_by(stations: &[Station; 16], at: usize) -> usize
+    ensures { result ≡ (get_or stations.now at nowhere).sent }
 {
     match stations.get(at) {
         Some(station) => station.sent,

@@ -24,8 +24,8 @@ pub struct Turn<'a> {
 }
 
 // The next record, or the end.
-pub fn turn_of<'a>(script: &'a [u8], stations: [Station; 16], reading: Reading) -> Turn<'a>
-    ensures { Turns (segment_of stations reading) (step_of script.now (progress_of stations reading)) result }
+pub fn turn_of<'a>(script: &'a [u8], stations: &[Station; 16], reading: Reading) -> Turn<'a>
+    ensures { Turns (segment_of stations.now reading) (step_of script.now (progress_of stations.now reading)) result }
 {
     let end = Turn {
         found: Ok(None),
@@ -70,9 +70,9 @@ pub fn stations_left(turn: Turn, stations: [Station; 16], reading: Reading) -> [
 }
 
 // Puts the line of a turn, after which the stations are these.
-pub fn put_turn(out: &mut [u8], turn: Turn, stations: [Station; 16]) -> usize
+pub fn put_turn(out: &mut [u8], turn: Turn, stations: &[Station; 16]) -> usize
     requires { 32 ≤ length out.old }
-    ensures { Printed (line_left turn.entry.found turn.entry.number (segment_of stations turn.entry.reading))
+    ensures { Printed (line_left turn.entry.found turn.entry.number (segment_of stations.now turn.entry.reading))
         out.old result out.new }
 {
     match turn.found {

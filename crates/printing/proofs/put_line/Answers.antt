@@ -1,5 +1,6 @@
 -- `printing::put_line` meets its contract.
 -- Assumes nothing.
+use native.Mathlib.Omega.{arith}
 use Rattle.text.proofs.Appending.{then}
 use Rattle.script.specs.Lines.{line_of}
 use Rattle.script.specs.Progress.{segment_of}
@@ -10,6 +11,6 @@ pub returns : goal.returns
 unfolding line_of
 returns c =
     prints (then (then c.put_decimal-next.ensures c.put_letters-next.ensures) c.put_byte.ensures)
-    (line_short c.args.number (segment_of c.args.stations c.args.reading) c.ranges.number.fits
-    c.well_formed.1.1.0.1.0.1)
+    (line_short c.args.number (segment_of c.args.stations.now c.args.reading) c.ranges.number.fits
+    (omega arith))
     c.requires

@@ -10,7 +10,7 @@ use Rattle.turns.proofs.turn_of.Goals.{then-at-script-via-then-at-script, then-a
 pub returns-then-script-gt65536 : goal.returns-then-script-gt65536
 returns-then-script-gt65536 c =
     let a = c.args in
-    rw (step_long a.script.now a.stations a.reading (omega arith))
+    rw (step_long a.script.now a.stations.now a.reading (omega arith))
     (record { stations_are = refl; reading_is = refl; line_is = refl })
 
 pub returns-then-at-script : goal.returns-then-at-script
@@ -19,27 +19,27 @@ returns-then-at-script c =
     let fits = c.if-script-gt65536.false in
     elim c.then-at-script.branch [
       | then-at-script-via-then-at-script w ↦
-          rw (step_none a.script.now a.stations a.reading fits w.if-at-script.true)
+          rw (step_none a.script.now a.stations.now a.reading fits w.if-at-script.true)
           (record { stations_are = refl; reading_is = refl; line_is = refl })
       | then-at-script-via-else-at-script+then-reading-at w ↦
-          rw (step_misplaced a.script.now a.stations a.reading fits w.if-at-script.false w.if-reading-at.true)
+          rw (step_misplaced a.script.now a.stations.now a.reading fits w.if-at-script.false w.if-reading-at.true)
           (record { stations_are = refl; reading_is = refl; line_is = refl })
     ]
 
 pub reading_after-requires-clause-number_bound : goal.reading_after-requires-clause-number_bound
 reading_after-requires-clause-number_bound c =
     let found = c.in-Ok.ensures in
-    number_fits (segment_of c.args.stations c.args.reading) _ _ _ found.refused found.taken.0
+    number_fits (segment_of c.args.stations.now c.args.reading) _ _ _ found.refused found.taken.0
 
 pub returns-in-Ok : goal.returns-in-Ok
 returns-in-Ok c =
     let a = c.args in
     let found = c.in-Ok.ensures in
-    turn_taken a.script.now a.stations a.reading c.if-script-gt65536.false c.if-at-script.false c.if-reading-at.false
+    turn_taken a.script.now a.stations.now a.reading c.if-script-gt65536.false c.if-at-script.false c.if-reading-at.false
     c.in-Ok.taken _ found.refused found.taken.0 found.taken.1 c.reading_after.ensures
 
 pub returns-in-Err : goal.returns-in-Err
 returns-in-Err c =
     let a = c.args in
-    turn_refused a.script.now a.stations a.reading c.if-script-gt65536.false c.if-at-script.false c.if-reading-at.false
+    turn_refused a.script.now a.stations.now a.reading c.if-script-gt65536.false c.if-at-script.false c.if-reading-at.false
     c.in-Err.refusal c.in-Err.ensures.refused
