@@ -74,19 +74,17 @@ decimal_length (suc k) n h =
 decimal_short : (n : ℕ) → n < 2 ^ 32 → length (decimal_of n) ≤ 10
 decimal_short n h = decimal_length 9 n (omega arith)
 
-letters_length : (used : ℕ) (l : List Station) → length l ≡ 16 → length (letters_of used l) ≤ 16
+pub letters_length : (used : ℕ) (l : List Station) → length l ≡ 16 → length (letters_of used l) ≤ 16
 unfolding letters_of
 letters_length used l long =
     omega (arith, length-map (take used l) (λ (s : Station). letter_of s.router.state), length-take used l)
 
 -- "a line has at most 32 bytes"
-pub line_short : (number : ℕ) (segment : Segment) → number < 2 ^ 32 → length segment.stations ≡ 16
+pub line_short : (number : ℕ) (segment : Segment) → number < 2 ^ 32
+    → length (letters_of segment.used segment.stations) ≤ 16
     → length (line_of number segment) ≤ 32
 unfolding line_of
-line_short number segment h long =
-    let letters = letters_of segment.used segment.stations in
-    simp length-append
-    (omega (arith, decimal_short number h, letters_length segment.used segment.stations long))
+line_short number segment h few = simp length-append (omega (arith, decimal_short number h))
 
 pub refused_short : (number refusal : ℕ) → number < 2 ^ 32 → refusal < 2 ^ 32 → length (refused_line number refusal) ≤ 32
 unfolding refused_line

@@ -7,10 +7,10 @@ ghost use Rattle.wire.specs.Refusal.{number_answered};
 ghost use Rattle.script.specs.Kinds.{kind_of};
 ghost use Rattle.script.specs.Checks.{segment_checks, station_checks, number_checks, deliver_checks, kind_checks};
 ghost use Rattle.script.specs.Record.{refusal_of};
-ghost use Rattle.script.specs.Progress.{segment_of};
+ghost use Rattle.script.specs.Progress.{segment_in};
 
 use script::kinds::Kind;
-use script::progress::Reading;
+use script::progress::Progress;
 use script::record::{Record, record_of};
 use script::segment::sent_by;
 use station::station::Station;
@@ -85,9 +85,11 @@ fn deliver_refusal(stations: &[Station; 16], used: usize, body: &[u8]) -> Result
 }
 
 // The first refusal of a kind's own.
-fn kind_refusal(stations: &[Station; 16], used: usize, taken: Record) -> Result<(), Refusal>
-    ensures { number_answered result ≡ first_refusal (kind_checks (Some taken.entry.kind) used stations.now taken.entry.body.now) }
+fn kind_refusal(progress: &Progress, taken: Record) -> Result<(), Refusal>
+    ensures { number_answered result ≡ first_refusal (kind_checks (Some taken.entry.kind) progress.now.reading.used progress.now.stations
+        taken.entry.body.now) }
 {
+    let used = progress.reading.used;
     let body = taken.body;
     match taken.kind {
         Kind::NewSegment => segment_refusal(body),
@@ -95,21 +97,20 @@ fn kind_refusal(stations: &[Station; 16], used: usize, taken: Record) -> Result<
         Kind::Startup => number_refusal(used, body),
         Kind::Shutdown => number_refusal(used, body),
         Kind::Clock => Ok(()),
-        Kind::Deliver => deliver_refusal(stations, used, body),
+        Kind::Deliver => deliver_refusal(&progress.stations, used, body),
     }
 }
 
 // The record of this kind whose body begins these bytes, or the first refusal of it.
 pub fn taken_record<'a>(
-    stations: &[Station; 16],
-    reading: Reading,
+    progress: &Progress,
     byte: u8,
     body: &'a [u8],
 ) -> Result<Record<'a>, Refusal>
-    ensures refused { number_answered result ≡ refusal_of (segment_of stations.now reading) (kind_of byte) body.now }
+    ensures refused { number_answered result ≡ refusal_of (segment_in progress.now) (kind_of byte) body.now }
     ensures taken { IfOk result (λ r. (Some r.kind ≡ kind_of byte) × (r.body.now ≡ body.now)) }
 {
-    let taken = record_of(reading.begun, byte, body)?;
-    kind_refusal(stations, reading.used, taken)?;
+    let taken = record_of(progress.reading.begun, byte, body)?;
+    kind_refusal(progress, taken)?;
     Ok(taken)
 }

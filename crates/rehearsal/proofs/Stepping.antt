@@ -1,29 +1,27 @@
 -- One record of a run, and one after another: what `run` cites.
 -- Assumes nothing.
-use mathlib.Core.Path.{◌≡◌, refl, sym, ap, subst, ◌∙◌}
-use mathlib.Core.Bool.{Bool, true, false, cond, not, ◌||◌}
+use mathlib.Core.Path.{◌≡◌, refl, ap, subst, ◌∙◌}
+use mathlib.Core.Bool.{Bool, true, false, cond, ◌||◌}
 use mathlib.Core.List.{List, [], ◌++◌, append_assoc, append-nil}
 use Prim.Native.Nat.{ℕ, ◌+◌, ◌-◌, ◌≤◌, ◌<◌}
 use native.Mathlib.Nat.{sub-zero}
 use native.Mathlib.Omega.{arith}
 use lib.Dec.{eqb, ltb, leb}
 use lib.ListN.{length, drop, get_or, length-append, length-drop, length-take}
-use borrow.Author.Tests.{lt-ltb, le-ltb, leb-false, not-false}
+use borrow.Author.Tests.{lt-ltb, le-ltb, leb-false}
 use borrow.Rule.Slice.PartMut.{mid_of, put_mid}
 use Rattle.writing.specs.Writing.{over}
 use Rattle.std.specs.Prelude.{Option}
 use Rattle.wire.proofs.Tested.{second_fails}
 use Rattle.output.proofs.Parts.{part_behind}
-use Rattle.station.specs.declared.station.Station.{Station}
 use Rattle.script.specs.declared.kinds.Kind.{Kind}
-use Rattle.script.specs.Segment.{Segment}
 use Rattle.script.specs.declared.progress.Progress.{Progress}
 use Rattle.script.specs.Kinds.{kind_of}
 use Rattle.script.specs.Record.{refusal_of}
 use Rattle.script.specs.Lines.{Printed, refused_line}
-use Rattle.script.specs.Progress.{exhausted, segment_of, segment_in, progress_of}
+use Rattle.script.specs.Progress.{exhausted, segment_in}
 use Rattle.turns.specs.declared.Turn.{Turn}
-use Rattle.turns.specs.Turn.{Step, ends, record_step, step_of, stations_left, line_left, Turns}
+use Rattle.turns.specs.Turn.{Step, ends, record_step, step_of, progress_left, line_left, Turns}
 use Rattle.rehearsal.specs.Run.{left_of, stops_at, Runs, stops, goes, RunLeaves}
 
 pub printed_as : {text other before after : List ℕ} {written : ℕ} → text ≡ other → Printed text before written after
@@ -66,24 +64,19 @@ pub left_falls : (script : List ℕ) (p : Progress) → p.reading.done ≡ false
 unfolding step_of
 left_falls script p d = long_falls (ltb 65536 (length script)) script p d
 
-undone : (t : Bool) → not t ≡ true → t ≡ false
-undone true e = sym e
-undone false e = refl
-
-pub left_less : (script : List ℕ) (p next : Progress) → not p.reading.done ≡ true → next ≡ (step_of script p).progress
+pub left_less : (script : List ℕ) (p next : Progress) → p.reading.done ≡ false → next ≡ (step_of script p).progress
     → left_of script next < left_of script p
-left_less script p next d e = rw e (left_falls script p (undone p.reading.done d))
+left_less script p next d e = rw e (left_falls script p d)
 
 -- whether a run stops, by the code's tests
-
-pub goes_on : (p : Progress) (room : ℕ) → not p.reading.done ≡ true → 32 ≤ room → stops_at p room ≡ false
-goes_on p room d t = rw (undone p.reading.done d, le-ltb room 32 t)
+pub goes_on : (p : Progress) (room : ℕ) → p.reading.done ≡ false → 32 ≤ room → stops_at p room ≡ false
+goes_on p room d t = rw (d, le-ltb room 32 t)
 
 pub stops_short : (p : Progress) (room : ℕ) → room < 32 → stops_at p room ≡ true
 stops_short p room t = second_fails p.reading.done (ltb room 32) (lt-ltb room 32 t)
 
-pub stops_done : (p : Progress) (room : ℕ) → not p.reading.done ≡ false → stops_at p room ≡ true
-stops_done p room d = rw (not-false p.reading.done d)
+pub stops_done : (p : Progress) (room : ℕ) → p.reading.done ≡ true → stops_at p room ≡ true
+stops_done p room d = rw d
 
 -- a run so far: its text stands at the start of the room, and what follows from here follows from its start
 pub record SoFar (script : List ℕ) (p : Progress) (before : List ℕ) (here : Progress) (written : ℕ) (after : List ℕ)
@@ -177,13 +170,11 @@ module _ {script : List ℕ} {p : Progress} {before : List ℕ} {here : Progress
         printed = so_far.printed;
       }
 
--- a turn of the run, and the stations after it
-module _ {segment : Segment} {step : Step} {turned : Turn} {after : List Station} (turns : Turns segment step turned)
-    (left : after ≡ stations_left turned.found segment) where
-  pub turn_progress : progress_of after turned.reading ≡ step.progress
-  turn_progress = rw (left, turns.stations_are, turns.reading_is)
+-- a turn of the run, and the progress after it
+module _ {p : Progress} {step : Step} {turned : Turn} {after : Progress} (turns : Turns p step turned)
+    (left : after ≡ progress_left turned p) where
+  pub turn_progress : after ≡ step.progress
+  turn_progress = left ∙ turns.progress_is
 
-  pub turn_line : line_left turned.found turned.number (segment_of after turned.reading) ≡ step.line
-  turn_line =
-      ap (λ (p : Progress). line_left turned.found turned.number (segment_in p)) turn_progress
-      ∙ turns.line_is
+  pub turn_line : line_left turned.found turned.number (segment_in after) ≡ step.line
+  turn_line = rw turn_progress turns.line_is

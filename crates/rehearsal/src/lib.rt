@@ -7,7 +7,7 @@ ghost use Rattle.rehearsal.specs.Run.{RunLeaves};
 
 use script::progress::{Progress, Reading};
 use script::segment::no_stations;
-use turns::{put_turn, stations_left, turn_of};
+use turns::{progress_after, put_turn, turn_of};
 
 #[derive(Drop)]
 pub struct Ran {
@@ -39,20 +39,16 @@ pub fn start() -> Progress
 pub fn run(script: &[u8], progress: Progress, out: &mut [u8]) -> Ran
     ensures { RunLeaves script.now progress out.old result out.new }
 {
-    let Progress {
-        mut stations,
-        mut reading,
-    } = progress;
+    let mut now = progress;
     let mut written = 0;
-    while !reading.done && out.len() - written >= 32 {
-        let turn = turn_of(script, &stations, reading);
-        let after = stations_left(turn, stations, reading);
-        stations = after;
-        written += put_turn(&mut out[written..], turn, &stations);
-        reading = turn.reading;
+    while !now.reading.done && out.len() - written >= 32 {
+        let turn = turn_of(script, &now);
+        let after = progress_after(&now, turn);
+        written += put_turn(&mut out[written..], turn, &after);
+        now = after;
     }
     Ran {
-        progress: Progress { stations, reading },
+        progress: now,
         written,
     }
 }

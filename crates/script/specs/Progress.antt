@@ -34,10 +34,6 @@ read_in segment at number done =
       done = done;
     }
 
--- the progress that was read, with these stations
-abbrev pub progress_of : List Station → Reading → Progress
-progress_of stations reading = record { stations = stations; reading = reading }
-
 -- the segment as far as it was read
 abbrev pub segment_in : Progress → Segment
 segment_in p = segment_of p.stations p.reading

@@ -3,12 +3,12 @@
 
 ghost use Rattle.std.specs.Prelude.{◌≡◌, [], ◌≤◌, ◌+◌, Some, false, length, set};
 ghost use Rattle.script.specs.Record.{station_in, after_record};
-ghost use Rattle.script.specs.Progress.{segment_of, read_in, new_number};
+ghost use Rattle.script.specs.Progress.{segment_of, segment_in, read_in, new_number};
 ghost use Rattle.script.specs.Kinds.{body_length};
 
 use lent::{deliver_in, pass_all_in, shutdown_in, startup_in};
 use script::kinds::Kind;
-use script::progress::Reading;
+use script::progress::{Progress, Reading};
 use script::record::Record;
 use station::making::new_station;
 use station::station::Station;
@@ -35,19 +35,20 @@ fn station_record(stations: [Station; 16], reading: Reading, body: &[u8]) -> [St
 }
 
 // The stations after a record that is taken. No script sees the answer of a step.
-pub fn stations_after(stations: [Station; 16], reading: Reading, taken: Record) -> [Station; 16]
-    ensures { result ≡ (after_record (Some taken.entry.kind) (segment_of stations reading)
+pub fn stations_after(progress: &Progress, taken: Record) -> [Station; 16]
+    ensures { result ≡ (after_record (Some taken.entry.kind) (segment_in progress.now)
         taken.entry.body.now).stations }
 {
+    let stations = progress.stations;
     let body = taken.body;
     match taken.kind {
         Kind::NewSegment => stations,
-        Kind::NewStation => station_record(stations, reading, body),
+        Kind::NewStation => station_record(stations, progress.reading, body),
         Kind::Startup => startup_in(stations, body[0] as usize).stations,
         Kind::Shutdown => shutdown_in(stations, body[0] as usize).stations,
         Kind::Clock => {
             let ticks = u16::from_be_bytes([body[0], body[1]]);
-            pass_all_in(stations, reading.used, ticks as u32)
+            pass_all_in(stations, progress.reading.used, ticks as u32)
         }
         Kind::Deliver => deliver_in(stations, body[0] as usize, body[1] as usize).stations,
     }

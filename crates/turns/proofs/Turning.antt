@@ -28,7 +28,7 @@ use Rattle.script.specs.Segment.{Segment}
 use Rattle.script.specs.Checks.{record_checks, kind_checks}
 use Rattle.script.specs.Record.{after_record, refusal_of}
 use Rattle.script.specs.Lines.{refused_line}
-use Rattle.script.specs.Progress.{exhausted, segment_of, progress_of, read_in, new_number}
+use Rattle.script.specs.Progress.{exhausted, segment_of, segment_in, read_in, new_number}
 use Rattle.turns.specs.Turn.{ends, record_step, step_of, Turns}
 
 -- what a record that is not refused has passed
@@ -77,10 +77,7 @@ read_alike (Some Clock) stations reading body at number = refl
 read_alike (Some Deliver) stations reading body at number = refl
 
 -- the step, by the tests that lead to it
-module _ (script : List ℕ) (stations : List Station) (reading : Reading) where
-  abbrev here : Progress
-  here = progress_of stations reading
-
+module _ (script : List ℕ) (here : Progress) where
   pub step_long : 65536 < length script → step_of script here ≡ ends here (refused_line 0 30)
   unfolding step_of
   step_long h = rw (lt-ltb 65536 (length script) h)
@@ -90,49 +87,49 @@ module _ (script : List ℕ) (stations : List Station) (reading : Reading) where
     unfolding step_of
     step_ends t = rw (le-ltb 65536 (length script) fits, t)
 
-    pub step_none : length script ≤ reading.at → step_of script here ≡ ends here []
-    step_none h = step_ends (rw (le-leb (length script) reading.at h))
+    pub step_none : length script ≤ here.reading.at → step_of script here ≡ ends here []
+    step_none h = step_ends (rw (le-leb (length script) here.reading.at h))
 
-    module _ (more : reading.at < length script) where
-      pub step_misplaced : reading.at + 1 < reading.number → step_of script here ≡ ends here []
+    module _ (more : here.reading.at < length script) where
+      pub step_misplaced : here.reading.at + 1 < here.reading.number → step_of script here ≡ ends here []
       step_misplaced h =
           step_ends
-          (rw (lt-leb (length script) reading.at more, lt-ltb (reading.at + 1) reading.number h))
+          (rw (lt-leb (length script) here.reading.at more, lt-ltb (here.reading.at + 1) here.reading.number h))
 
-      module _ (placed : reading.number ≤ reading.at + 1) where
+      module _ (placed : here.reading.number ≤ here.reading.at + 1) where
         abbrev kind : Option Kind
-        kind = kind_of (get_or script reading.at 0)
+        kind = kind_of (get_or script here.reading.at 0)
 
         abbrev body : List ℕ
-        body = take (length script - (reading.at + 1)) (drop (reading.at + 1) script)
+        body = take (length script - (here.reading.at + 1)) (drop (here.reading.at + 1) script)
 
         step_goes : step_of script here ≡ record_step here kind body
         unfolding step_of
         step_goes =
             rw (
-              take_all (length script - (reading.at + 1)) (drop (reading.at + 1) script)
-                  (omega (arith, length-drop (reading.at + 1) script)),
+              take_all (length script - (here.reading.at + 1)) (drop (here.reading.at + 1) script)
+                  (omega (arith, length-drop (here.reading.at + 1) script)),
               le-ltb 65536 (length script) fits,
-              lt-leb (length script) reading.at more,
-              le-ltb (reading.at + 1) reading.number placed,
+              lt-leb (length script) here.reading.at more,
+              le-ltb (here.reading.at + 1) here.reading.number placed,
             )
 
-        pub turn_refused : (refusal : Refusal) → refusal_number refusal ≡ refusal_of (segment_of stations reading) kind body
-            → Turns (segment_of stations reading) (step_of script here)
-            (record { found = Err refusal; number = reading.number; reading = read_in (segment_of stations reading) reading.at reading.number true })
+        pub turn_refused : (refusal : Refusal) → refusal_number refusal ≡ refusal_of (segment_in here) kind body
+            → Turns here (step_of script here)
+            (record { found = Err refusal; number = here.reading.number; reading = read_in (segment_in here) here.reading.at here.reading.number true })
         turn_refused refusal e =
             let some = (within refusal).0 in
             rw (step_goes, ← e, ne_eqb (refusal_number refusal) 0 (λ z. absurd (omega arith)))
-            (record { stations_are = refl; reading_is = refl; line_is = refl })
+            (record { progress_is = refl; line_is = refl })
 
-        pub turn_taken : (taken : Record) (after : Reading) → 0 ≡ refusal_of (segment_of stations reading) kind body
+        pub turn_taken : (taken : Record) (after : Reading) → 0 ≡ refusal_of (segment_in here) kind body
             → Some taken.kind ≡ kind → taken.body.now ≡ body
             → after
-            ≡ read_in (after_record (Some taken.kind) (segment_of [] reading) taken.body.now)
-            (reading.at + 1 + body_length (Some taken.kind)) (reading.number + 1) false
-            → Turns (segment_of stations reading) (step_of script here)
-            (record { found = Ok (Some taken); number = reading.number; reading = after })
+            ≡ read_in (after_record (Some taken.kind) (segment_of [] here.reading) taken.body.now)
+            (here.reading.at + 1 + body_length (Some taken.kind)) (here.reading.number + 1) false
+            → Turns here (step_of script here)
+            (record { found = Ok (Some taken); number = here.reading.number; reading = after })
         turn_taken taken after e k b a =
-            let alike = read_alike (Some taken.kind) stations reading taken.body.now (reading.at + 1 + body_length (Some taken.kind)) (reading.number + 1) in
+            let alike = read_alike (Some taken.kind) here.stations here.reading taken.body.now (here.reading.at + 1 + body_length (Some taken.kind)) (here.reading.number + 1) in
             rw (step_goes, ← e, ← k, ← b, a, alike)
-            (record { stations_are = refl; reading_is = refl; line_is = refl })
+            (record { progress_is = refl; line_is = refl })

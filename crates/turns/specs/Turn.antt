@@ -50,8 +50,11 @@ line_left (Ok (Some taken)) number segment = printed_of (Some taken.kind) number
 line_left (Ok None) number segment = []
 line_left (Err refusal) number segment = refused_line number (refusal_number refusal)
 
--- a turn from this segment is that step: what it found leaves its stations, and says its line
-pub record Turns (segment : Segment) (step : Step) (turn : Turn) : Type 0 where
-  pub stations_are : stations_left turn.found segment ≡ step.progress.stations
-  pub reading_is : turn.reading ≡ step.progress.reading
+-- the progress after a turn
+abbrev pub progress_left : Turn → Progress → Progress
+progress_left turn p = record { stations = stations_left turn.found (segment_in p); reading = turn.reading }
+
+-- a turn is that step: what it leaves, and the line of what it found
+pub record Turns (p : Progress) (step : Step) (turn : Turn) : Type 0 where
+  pub progress_is : progress_left turn p ≡ step.progress
   pub line_is : line_left turn.found turn.number (segment_in step.progress) ≡ step.line

@@ -3,14 +3,13 @@
 
 ghost use Rattle.std.specs.Prelude.{◌≡◌, ◌≤◌, length};
 ghost use Rattle.script.specs.Lines.{Printed};
-ghost use Rattle.script.specs.Progress.{segment_of, progress_of};
-ghost use Rattle.turns.specs.Turn.{Turns, step_of, stations_left, line_left};
+ghost use Rattle.script.specs.Progress.{segment_in};
+ghost use Rattle.turns.specs.Turn.{Turns, step_of, progress_left, line_left};
 
 use printing::{put_printed, put_refused};
 use refusing::taken_record;
-use script::progress::Reading;
+use script::progress::{Progress, Reading};
 use script::record::Record;
-use station::station::Station;
 use taking::{reading_after, stations_after};
 use wire::refusal::Refusal;
 
@@ -24,9 +23,10 @@ pub struct Turn<'a> {
 }
 
 // The next record, or the end.
-pub fn turn_of<'a>(script: &'a [u8], stations: &[Station; 16], reading: Reading) -> Turn<'a>
-    ensures { Turns (segment_of stations.now reading) (step_of script.now (progress_of stations.now reading)) result }
+pub fn turn_of<'a>(script: &'a [u8], progress: &Progress) -> Turn<'a>
+    ensures { Turns progress.now (step_of script.now progress.now) result }
 {
+    let reading = progress.reading;
     let end = Turn {
         found: Ok(None),
         number: reading.number,
@@ -46,7 +46,7 @@ pub fn turn_of<'a>(script: &'a [u8], stations: &[Station; 16], reading: Reading)
     if at >= script.len() || reading.number as usize > at + 1 {
         return end;
     }
-    match taken_record(stations, reading, script[at], &script[at + 1..]) {
+    match taken_record(progress, script[at], &script[at + 1..]) {
         Ok(taken) => Turn {
             found: Ok(Some(taken)),
             reading: reading_after(reading, taken),
@@ -59,24 +59,28 @@ pub fn turn_of<'a>(script: &'a [u8], stations: &[Station; 16], reading: Reading)
     }
 }
 
-// The stations after a turn.
-pub fn stations_left(turn: Turn, stations: [Station; 16], reading: Reading) -> [Station; 16]
-    ensures { result ≡ stations_left turn.entry.found (segment_of stations reading) }
+// The progress after a turn.
+pub fn progress_after(progress: &Progress, turn: Turn) -> Progress
+    ensures { result ≡ progress_left turn.entry progress.now }
 {
-    match turn.found {
-        Ok(Some(taken)) => stations_after(stations, reading, taken),
-        _ => stations,
+    let stations = match turn.found {
+        Ok(Some(taken)) => stations_after(progress, taken),
+        _ => progress.stations,
+    };
+    Progress {
+        stations,
+        reading: turn.reading,
     }
 }
 
-// Puts the line of a turn, after which the stations are these.
-pub fn put_turn(out: &mut [u8], turn: Turn, stations: &[Station; 16]) -> usize
+// Puts the line of a turn, after which the progress is this.
+pub fn put_turn(out: &mut [u8], turn: Turn, after: &Progress) -> usize
     requires { 32 ≤ length out.old }
-    ensures { Printed (line_left turn.entry.found turn.entry.number (segment_of stations.now turn.entry.reading))
+    ensures { Printed (line_left turn.entry.found turn.entry.number (segment_in after.now))
         out.old result out.new }
 {
     match turn.found {
-        Ok(Some(taken)) => put_printed(out, taken.kind, turn.number, stations, turn.reading),
+        Ok(Some(taken)) => put_printed(out, taken.kind, turn.number, after),
         Ok(None) => 0,
         Err(refusal) => put_refused(out, turn.number, refusal),
     }

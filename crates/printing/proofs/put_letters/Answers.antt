@@ -1,6 +1,7 @@
 -- Each turn appends one letter more.
+use native.Mathlib.Omega.{arith}
 use Rattle.text.proofs.Appending.{then}
-use Rattle.printing.proofs.Spelled.{begins, letters_step, letters_end}
+use Rattle.printing.proofs.Spelled.{begins, letters_step, letters_end, letters_length}
 use Rattle.printing.proofs.put_letters.Goals as goal
 
 pub loop-station-init : goal.loop-station-init
@@ -18,9 +19,12 @@ loop-station-preserved c =
           c.loop-station.invariant.1 after last (rw (letters_step _ _ _ _ _ _ steps.0 steps.1 c.letter_of.ensures) (then letter a)),
     )
 
-pub returns : goal.returns
-returns c =
+pub returns-clause-letters : goal.returns-clause-letters
+returns-clause-letters c =
     let left = c.loop-station.station-iterator in
     let none = letters_end left.n left.iter.rest.now (λ h. (c.in-None.ensures.steps h).0) in
     then c.put_byte-next.ensures
     (c.loop-station.invariant.1 _ _ (rw none (begins _ _ c.loop-station.invariant.0)))
+
+pub returns-clause-few : goal.returns-clause-few
+returns-clause-few c = letters_length c.args.used c.args.stations.now (omega arith)

@@ -3,35 +3,30 @@
 use Prim.Native.Nat.{◌-◌}
 use native.Mathlib.Omega.{arith}
 use lib.ListN.{length}
-use Rattle.script.specs.Progress.{progress_of}
 use Rattle.rehearsal.proofs.Stepping.{turn, stopped, left_less, goes_on, stops_short, stops_done, printed_as, turn_progress, turn_line}
 use Rattle.rehearsal.proofs.run.Goals as goal
 
-pub loop-reading-smaller : goal.loop-reading-smaller
-loop-reading-smaller c =
-    let loop = c.loop-reading in
-    left_less c.args.script.now (progress_of loop.stations loop.reading) _ c.loop-reading-test.true
-    (turn_progress c.turn_of-turn.ensures c.stations_left-after.ensures)
+pub loop-now-smaller : goal.loop-now-smaller
+loop-now-smaller c =
+    left_less c.args.script.now c.loop-now.now _ c.loop-now-test.true
+    (turn_progress c.turn_of-turn.ensures c.progress_after-after.ensures)
 
-pub loop-reading-preserved : goal.loop-reading-preserved
-loop-reading-preserved c =
-    let loop = c.loop-reading in
-    let here = progress_of loop.stations loop.reading in
+pub loop-now-preserved : goal.loop-now-preserved
+loop-now-preserved c =
+    let loop = c.loop-now in
     let turned = c.turn_of-turn.ensures in
-    let moved = c.stations_left-after.ensures in
+    let moved = c.progress_after-after.ensures in
     turn loop.invariant _ _ _
-    (goes_on here (length loop.out - loop.written) c.loop-reading-test.true (omega arith))
+    (goes_on loop.now (length loop.out - loop.written) c.loop-now-test.true (omega arith))
     (turn_progress turned moved)
     (printed_as (turn_line turned moved) c.put_turn-written.ensures)
 
 pub returns-else-out-written-ge32 : goal.returns-else-out-written-ge32
 returns-else-out-written-ge32 c =
-    let loop = c.loop-reading in
-    let here = progress_of loop.stations loop.reading in
-    stopped loop.invariant (stops_short here (length loop.out - loop.written) (omega arith))
+    let loop = c.loop-now in
+    stopped loop.invariant (stops_short loop.now (length loop.out - loop.written) (omega arith))
 
-pub returns-after-loop-reading : goal.returns-after-loop-reading
-returns-after-loop-reading c =
-    let loop = c.loop-reading in
-    let here = progress_of loop.stations loop.reading in
-    stopped loop.invariant (stops_done here (length loop.out - loop.written) c.loop-reading-test.false)
+pub returns-after-loop-now : goal.returns-after-loop-now
+returns-after-loop-now c =
+    let loop = c.loop-now in
+    stopped loop.invariant (stops_done loop.now (length loop.out - loop.written) c.loop-now-test.false)

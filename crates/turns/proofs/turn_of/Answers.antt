@@ -2,7 +2,7 @@
 -- Assumes nothing.
 use mathlib.Core.Path.{refl}
 use native.Mathlib.Omega.{arith}
-use Rattle.script.specs.Progress.{segment_of}
+use Rattle.script.specs.Progress.{segment_in}
 use Rattle.turns.proofs.Turning.{number_fits, step_long, step_none, step_misplaced, turn_refused, turn_taken}
 use Rattle.turns.proofs.turn_of.Goals as goal
 use Rattle.turns.proofs.turn_of.Goals.{then-at-script-via-then-at-script, then-at-script-via-else-at-script+then-reading-at}
@@ -10,8 +10,8 @@ use Rattle.turns.proofs.turn_of.Goals.{then-at-script-via-then-at-script, then-a
 pub returns-then-script-gt65536 : goal.returns-then-script-gt65536
 returns-then-script-gt65536 c =
     let a = c.args in
-    rw (step_long a.script.now a.stations.now a.reading (omega arith))
-    (record { stations_are = refl; reading_is = refl; line_is = refl })
+    rw (step_long a.script.now a.progress.now (omega arith))
+    (record { progress_is = refl; line_is = refl })
 
 pub returns-then-at-script : goal.returns-then-at-script
 returns-then-at-script c =
@@ -19,27 +19,27 @@ returns-then-at-script c =
     let fits = c.if-script-gt65536.false in
     elim c.then-at-script.branch [
       | then-at-script-via-then-at-script w ↦
-          rw (step_none a.script.now a.stations.now a.reading fits w.if-at-script.true)
-          (record { stations_are = refl; reading_is = refl; line_is = refl })
+          rw (step_none a.script.now a.progress.now fits w.if-at-script.true)
+          (record { progress_is = refl; line_is = refl })
       | then-at-script-via-else-at-script+then-reading-at w ↦
-          rw (step_misplaced a.script.now a.stations.now a.reading fits w.if-at-script.false w.if-reading-at.true)
-          (record { stations_are = refl; reading_is = refl; line_is = refl })
+          rw (step_misplaced a.script.now a.progress.now fits w.if-at-script.false w.if-reading-at.true)
+          (record { progress_is = refl; line_is = refl })
     ]
 
 pub reading_after-requires-clause-number_bound : goal.reading_after-requires-clause-number_bound
 reading_after-requires-clause-number_bound c =
     let found = c.in-Ok.ensures in
-    number_fits (segment_of c.args.stations.now c.args.reading) _ _ _ found.refused found.taken.0
+    number_fits (segment_in c.args.progress.now) _ _ _ found.refused found.taken.0
 
 pub returns-in-Ok : goal.returns-in-Ok
 returns-in-Ok c =
     let a = c.args in
     let found = c.in-Ok.ensures in
-    turn_taken a.script.now a.stations.now a.reading c.if-script-gt65536.false c.if-at-script.false c.if-reading-at.false
+    turn_taken a.script.now a.progress.now c.if-script-gt65536.false c.if-at-script.false c.if-reading-at.false
     c.in-Ok.taken _ found.refused found.taken.0 found.taken.1 c.reading_after.ensures
 
 pub returns-in-Err : goal.returns-in-Err
 returns-in-Err c =
     let a = c.args in
-    turn_refused a.script.now a.stations.now a.reading c.if-script-gt65536.false c.if-at-script.false c.if-reading-at.false
+    turn_refused a.script.now a.progress.now c.if-script-gt65536.false c.if-at-script.false c.if-reading-at.false
     c.in-Err.refusal c.in-Err.ensures.refused
