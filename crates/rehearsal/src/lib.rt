@@ -7,7 +7,7 @@ ghost use Rattle.rehearsal.specs.Run.{RunLeaves};
 
 use script::progress::{Progress, Reading};
 use script::segment::no_stations;
-use turns::{progress_after, put_turn, turn_of};
+use turns::{advance, put_turn, turn_of};
 
 #[derive(Drop)]
 pub struct Ran {
@@ -43,9 +43,8 @@ pub fn run(script: &[u8], progress: Progress, out: &mut [u8]) -> Ran
     let mut written = 0;
     while !now.reading.done && out.len() - written >= 32 {
         let turn = turn_of(script, &now);
-        let after = progress_after(&now, turn);
-        written += put_turn(&mut out[written..], turn, &after);
-        now = after;
+        advance(&mut now, turn);
+        written += put_turn(&mut out[written..], turn, &now);
     }
     Ran {
         progress: now,

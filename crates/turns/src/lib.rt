@@ -59,18 +59,15 @@ pub fn turn_of<'a>(script: &'a [u8], progress: &Progress) -> Turn<'a>
     }
 }
 
-// The progress after a turn.
-pub fn progress_after(progress: &Progress, turn: Turn) -> Progress
-    ensures { result ≡ progress_left turn.entry progress.now }
+// Goes on to the progress after a turn.
+pub fn advance(progress: &mut Progress, turn: Turn)
+    ensures { progress.new ≡ progress_left turn.entry progress.old }
 {
-    let stations = match turn.found {
-        Ok(Some(taken)) => stations_after(progress, taken),
-        _ => progress.stations,
-    };
-    Progress {
-        stations,
-        reading: turn.reading,
+    if let Ok(Some(taken)) = turn.found {
+        let after = stations_after(progress, taken);
+        progress.stations = after;
     }
+    progress.reading = turn.reading;
 }
 
 // Puts the line of a turn, after which the progress is this.
