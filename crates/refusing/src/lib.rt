@@ -1,7 +1,7 @@
 // What refuses a record, by its kind.
 #![tactic(auto)]
 
-ghost use Rattle.std.specs.Prelude.{◌≡◌, ◌≤◌, Some, length, IfOk};
+ghost use Rattle.std.specs.Prelude.{◌≡◌, [], ◌∷◌, Some, IfOk};
 ghost use Rattle.wire.specs.Check.{first_refusal};
 ghost use Rattle.wire.specs.Refusal.{number_answered};
 ghost use Rattle.script.specs.Kinds.{kind_of};
@@ -17,12 +17,9 @@ use station::station::Station;
 use wire::refusal::Refusal;
 
 // The first of 14 and 16 that refuses a segment record.
-fn segment_refusal(body: &[u8]) -> Result<(), Refusal>
-    requires { 6 ≤ length body.now }
-    ensures { number_answered result ≡ first_refusal (segment_checks body.now) }
+fn segment_refusal(vrid: u8, interval: u8) -> Result<(), Refusal>
+    ensures { number_answered result ≡ first_refusal (segment_checks (vrid ∷ (interval ∷ []))) }
 {
-    let vrid = body[0];
-    let interval = body[1];
     if vrid == 0 {
         return Err(Refusal::VridZero);
     }
@@ -33,12 +30,9 @@ fn segment_refusal(body: &[u8]) -> Result<(), Refusal>
 }
 
 // The first of 27, 15 and 29 that refuses a station record.
-fn station_refusal(used: usize, body: &[u8]) -> Result<(), Refusal>
-    requires { 6 ≤ length body.now }
-    ensures { number_answered result ≡ first_refusal (station_checks used body.now) }
+fn station_refusal(used: usize, priority: u8, preempt: u8) -> Result<(), Refusal>
+    ensures { number_answered result ≡ first_refusal (station_checks used (priority ∷ (preempt ∷ []))) }
 {
-    let priority = body[0];
-    let preempt = body[1];
     if used >= 16 {
         return Err(Refusal::SeventeenthStation);
     }
@@ -52,23 +46,24 @@ fn station_refusal(used: usize, body: &[u8]) -> Result<(), Refusal>
 }
 
 // 26 where a startup or shutdown record names no station.
-fn number_refusal(used: usize, body: &[u8]) -> Result<(), Refusal>
-    requires { 1 ≤ length body.now }
-    ensures { number_answered result ≡ first_refusal (number_checks used body.now) }
+fn number_refusal(used: usize, at: usize) -> Result<(), Refusal>
+    ensures { number_answered result ≡ first_refusal (number_checks used (at ∷ [])) }
 {
-    if body[0] as usize >= used {
+    if at >= used {
         return Err(Refusal::UnusedStation);
     }
     Ok(())
 }
 
 // The first of 26 and 28 that refuses a deliver record.
-fn deliver_refusal(stations: &[Station; 16], used: usize, body: &[u8]) -> Result<(), Refusal>
-    requires { 2 ≤ length body.now }
-    ensures { number_answered result ≡ first_refusal (deliver_checks used stations.now body.now) }
+fn deliver_refusal(
+    stations: &[Station; 16],
+    used: usize,
+    from: usize,
+    to: usize,
+) -> Result<(), Refusal>
+    ensures { number_answered result ≡ first_refusal (deliver_checks used stations.now (from ∷ (to ∷ []))) }
 {
-    let from = body[0] as usize;
-    let to = body[1] as usize;
     if from >= used {
         return Err(Refusal::UnusedStation);
     }
@@ -86,18 +81,19 @@ fn deliver_refusal(stations: &[Station; 16], used: usize, body: &[u8]) -> Result
 
 // The first refusal of a kind's own.
 fn kind_refusal(progress: &Progress, taken: Record) -> Result<(), Refusal>
-    ensures { number_answered result ≡ first_refusal (kind_checks (Some taken.entry.kind) progress.now.reading.used progress.now.stations
-        taken.entry.body.now) }
+    ensures { number_answered result ≡ first_refusal (kind_checks (Some taken.entry.kind)
+        progress.now.reading.used progress.now.stations taken.entry.body.now) }
 {
     let used = progress.reading.used;
     let body = taken.body;
     match taken.kind {
-        Kind::NewSegment => segment_refusal(body),
-        Kind::NewStation => station_refusal(used, body),
-        Kind::Startup => number_refusal(used, body),
-        Kind::Shutdown => number_refusal(used, body),
+        Kind::NewSegment => segment_refusal(body[0], body[1]),
+        Kind::NewStation => station_refusal(used, body[0], body[1]),
+        Kind::Startup | Kind::Shutdown => number_refusal(used, body[0] as usize),
         Kind::Clock => Ok(()),
-        Kind::Deliver => deliver_refusal(&progress.stations, used, body),
+        Kind::Deliver => {
+            deliver_refusal(&progress.stations, used, body[0] as usize, body[1] as usize)
+        }
     }
 }
 

@@ -38,12 +38,9 @@ impl Kind {
         ensures { result ≡ body_length (Some self) }
     {
         match self {
-            Kind::NewSegment => 6,
-            Kind::NewStation => 6,
-            Kind::Startup => 1,
-            Kind::Shutdown => 1,
-            Kind::Clock => 2,
-            Kind::Deliver => 2,
+            Kind::NewSegment | Kind::NewStation => 6,
+            Kind::Startup | Kind::Shutdown => 1,
+            Kind::Clock | Kind::Deliver => 2,
         }
     }
 }

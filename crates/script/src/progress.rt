@@ -5,7 +5,6 @@ use station::station::Station;
 pub struct Progress {
     // in number order; those that are not used are not there yet
     pub stations: [Station; 16],
-    // apart from the stations, so that a record moves them alone
     pub reading: Reading,
 }
 
@@ -20,6 +19,7 @@ pub struct Reading {
     // the one virtual address
     pub address: [u8; 4],
     // whether a segment record was read
+    // Kept: a flag, and no option of what the record says: `station_in` is said of every segment, begun or not.
     pub begun: bool,
     // where the next record begins
     pub at: usize,
