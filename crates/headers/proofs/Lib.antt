@@ -1,2 +1,2 @@
 pub mod Readable
-pub mod Whole
+pub mod Theorems

@@ -1,1 +1,3 @@
 pub mod Packet
+pub mod Cause
+pub mod Theorems
