@@ -2,6 +2,7 @@
 #![tactic(auto)]
 
 ghost use Rattle.std.specs.Prelude.{◌≡◌, ◌+◌, ◌*◌, ◌≤◌, ◌<◌, length};
+ghost use Rattle.wire.specs.Refusal.{number_answered};
 ghost use Rattle.states.specs.Turn.{turn_of};
 ghost use Rattle.events.specs.Lists.{list_at, their_list, lists_match};
 ghost use Rattle.events.specs.Result.{Leaves, router_place, acted_of};
@@ -17,6 +18,7 @@ use places::place::{Found, count_at_place, load};
 use router::accept::{count_accepted, router_refusal};
 use states::record::Turn;
 use states::step::{Event, Writes, turn};
+use wire::refusal::Refusal;
 
 // Whether a packet lists the addresses of a place.
 fn same_list(lists: &[u8], place: usize, count: u8, packet: &[u8], fields: Fields) -> bool
@@ -32,11 +34,17 @@ fn same_list(lists: &[u8], place: usize, count: u8, packet: &[u8], fields: Field
     lists_match(&lists[start..end], &packet[from..to])
 }
 
-// The first of refusals 10 to 13 that the router at a place gives a packet, or 0.
-fn refusal_at(words: &[u32], lists: &[u8], place: usize, packet: &[u8], fields: Fields) -> u32
+// The first of refusals 10 to 13 that the router at a place gives a packet.
+fn refusal_at(
+    words: &[u32],
+    lists: &[u8],
+    place: usize,
+    packet: &[u8],
+    fields: Fields,
+) -> Result<(), Refusal>
     requires place_bound { (place < 255) × (length words.now ≡ 4096) × (length lists.now ≡ 16320) }
     requires count_in_bounds { fields.list + 4 * fields.count ≤ length packet.now }
-    ensures { result ≡ refusal_at words.now lists.now place packet.now fields }
+    ensures { number_answered result ≡ refusal_at words.now lists.now place packet.now fields }
 {
     let heard = load(words, place);
     let same = same_list(lists, place, heard.count, packet, fields);
@@ -102,10 +110,10 @@ fn hear_at(
         (heard_at words.old lists.now place packet.now fields out.old)
         result words.new out.new }
 {
-    let refusal = refusal_at(words, lists, place, packet, fields);
-    if refusal != 0 {
-        count_at_place(words, place, refusal);
-        return Answered::Refused(refusal);
+    if let Err(refusal) = refusal_at(words, lists, place, packet, fields) {
+        let number = refusal.number();
+        count_at_place(words, place, number);
+        return Answered::Refused(number);
     }
     accept_at(words, lists, place, fields, out)
 }

@@ -1,28 +1,18 @@
 -- `packets::hear_at` meets its contract.
 -- Assumes nothing.
-use mathlib.Core.Path.{sym, ◌∙◌}
-use native.Mathlib.Omega.{arith}
-use Rattle.events.proofs.Sought.{leaves_equal}
-use Rattle.packets.proofs.Heard.{refused_range, heard_refused, heard_accepted}
+use Rattle.std.proofs.Common.{arith, ◌∙◌}
+use Rattle.packets.proofs.Heard.{refused_range, heard_refused}
 use Rattle.packets.proofs.hear_at.Goals as goal
 
-pub count_at_place-requires : goal.count_at_place-requires
-count_at_place-requires c =
+pub count_at_place-requires-clause-le_number : goal.count_at_place-requires-clause-le_number
+count_at_place-requires-clause-le_number c =
     let a = c.args in
-    let range = refused_range a.words.now a.lists.now a.packet.now a.place a.fields _
-    c.refusal_at-refusal.ensures (λ e. omega arith) in
-    omega (arith, range)
+    let number = c.number-number.ensures.number ∙ c.in-Err.ensures in
+    refused_range a.words.now a.lists.now a.packet.now a.place a.fields _ number (λ e. omega arith)
 
-pub returns-then-refusal-ne0 : goal.returns-then-refusal-ne0
-returns-then-refusal-ne0 c =
+pub returns-in-Err : goal.returns-in-Err
+returns-in-Err c =
     let a = c.args in
-    heard_refused a.words.now a.lists.now a.packet.now a.place a.fields a.out.now _ _
-    c.refusal_at-refusal.ensures (λ e. omega arith) c.count_at_place.ensures
-
-pub returns : goal.returns
-returns c =
-    let a = c.args in
-    let none = sym c.refusal_at-refusal.ensures ∙ c.if-refusal-ne0.false in
-    leaves_equal _ _ _ _ _
-    (heard_accepted a.words.now a.lists.now a.packet.now a.place a.fields a.out.now none)
-    c.accept_at.ensures
+    let number = c.number-number.ensures.number ∙ c.in-Err.ensures in
+    heard_refused a.words.now a.lists.now a.packet.now a.place a.fields a.out.now _ _ number (λ e. omega arith)
+    c.count_at_place.ensures
