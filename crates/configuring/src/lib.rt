@@ -3,8 +3,7 @@
 
 ghost use Rattle.std.specs.Prelude.{◌≡◌, ◌/◌, ◌≤◌, ◌<◌, length};
 ghost use Rattle.wire.specs.Refusal.{number_answered};
-ghost use Rattle.states.specs.Step.{state_number};
-ghost use Rattle.places.specs.Place.{record_at, set_record, place_of};
+ghost use Rattle.places.specs.Place.{set_record, place_of};
 ghost use Rattle.events.specs.Lists.{set_list};
 ghost use Rattle.configuring.specs.Configuring.{empty_of, is_found, new_router, configure_refusal, Configured, Removed};
 
@@ -12,7 +11,6 @@ use events::acting::seek;
 use events::lists::put_list;
 use places::place::{Place, find, load, store};
 use states::record::{Counts, Router, State};
-use states::step::state_number;
 use wire::refusal::Refusal;
 use writing::addresses::address_bytes_wrong;
 
@@ -133,21 +131,12 @@ pub fn set_up(
     }
 }
 
-// The number of the state of the router at a place.
-fn state_at(words: &[u32; 4096], place: Place) -> u32
-    ensures { result ≡ state_number (record_at words.now place).state }
-{
-    let found = load(words, place);
-    let state = found.state;
-    state_number(state)
-}
-
 // Frees the place of a virtual router in Initialize, or refuses by 20 or 21.
 pub fn free(words: &mut [u32; 4096], vrid: u8) -> Result<(), Refusal>
     ensures { Removed words.old vrid (number_answered result) words.new }
 {
     let place = seek(words, vrid).ok_or(Refusal::NoRouter)?;
-    if state_at(words, place) != 0 {
+    if load(words, place).state != State::Initialize {
         return Err(Refusal::NotInInitialize);
     }
     store(words, place, new_router(0, 0, 0, false, 0));
