@@ -24,12 +24,6 @@ use Rattle.configuring.specs.Configuring.{is_found, new_router, freed, settings_
 use Rattle.configuring.specs.Configuring.{configure_refusal, Configured, remove_checks, remove_refusal, Removed}
 
 module _ (words lists : List ℕ) (v priority interval : ℕ) (preempt : Bool) (addresses : List ℕ) where
-  pub configure_refused : (number : ℕ) → number ≡ configure_refusal words v priority interval addresses → ¬ (number ≡ 0)
-      → Configured words lists v priority interval preempt addresses number words lists
-  configure_refused number e n =
-      let t = ne_eqb number 0 n in
-      record { answer_is = e; words_are = rw (← e, t); lists_are = rw (← e, t) }
-
   pub configure_done : (p : ℕ) (after lists_after : List ℕ) → configure_refusal words v priority interval addresses ≡ 0
       → place_of words 0 ≡ Some p → after ≡ set_record words p (new_router v priority interval preempt (length addresses / 4))
       → lists_after ≡ set_list lists p addresses → Configured words lists v priority interval preempt addresses 0 after lists_after
