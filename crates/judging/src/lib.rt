@@ -5,10 +5,12 @@ mod message; // the VRRP message, refusals 5 to 8
 
 ghost use Rattle.std.specs.Prelude.{◌≡◌, ◌≤◌, length};
 ghost use Rattle.judging.specs.Judging.{fields_in, judged_of};
+ghost use Rattle.wire.specs.Refusal.{numbered};
 
 use crate::message::message_refusal;
 use headers::{header_length, header_refusal, total_length};
 use sums::number;
+use wire::refusal::Refusal;
 
 // What a packet that passes refusals 1 to 8 says.
 #[derive(Clone, Copy)]
@@ -25,13 +27,6 @@ pub struct Fields {
     pub interval: u8,
     // where its address list stands in the packet
     pub list: usize,
-}
-
-#[derive(Clone, Copy)]
-pub enum Judged {
-    Accepted(Fields),
-    // the number of the first check that fails
-    Refused(u32),
 }
 
 // The fields of a message, with its packet's source address and where its address list stands there.
@@ -51,20 +46,15 @@ fn read_fields(source: u32, message: &[u8], list: usize) -> Fields
 }
 
 // Judges a packet up to refusal 8: any bytes have an answer.
-pub fn judge(packet: &[u8]) -> Judged
-    ensures { result ≡ judged_of packet.now }
+#[tactic(auto, using(crate::proofs::Passing::header_passed))]
+pub fn judge(packet: &[u8]) -> Result<Fields, Refusal>
+    ensures { numbered result ≡ judged_of packet.now }
 {
-    let header = header_refusal(packet);
-    if header != 0 {
-        return Judged::Refused(header);
-    }
+    header_refusal(packet)?;
     let start = header_length(packet);
     let end = total_length(packet);
     let payload = &packet[start..end];
-    let message = message_refusal(payload);
-    if message != 0 {
-        return Judged::Refused(message);
-    }
+    message_refusal(payload)?;
     let source = number(packet[12], packet[13], packet[14], packet[15]);
-    Judged::Accepted(read_fields(source, payload, start + 8))
+    Ok(read_fields(source, payload, start + 8))
 }

@@ -1,3 +1,4 @@
 pub mod Tested
 pub mod Checks
+pub mod Refusals
 pub mod Theorems

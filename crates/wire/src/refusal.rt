@@ -1,6 +1,6 @@
 // Why the rules refuse a packet, a call or a script.
 ghost use Rattle.std.specs.Prelude.{◌≡◌, ◌≤◌};
-ghost use Rattle.wire.specs.Refusal.{refusal_number};
+ghost use Rattle.wire.specs.Refusal.{number_answered, refusal_number};
 
 use std::fmt;
 
@@ -81,6 +81,16 @@ impl Refusal {
             Refusal::PreemptAboveOne => 29,
             Refusal::ScriptTooLong => 30,
         }
+    }
+}
+
+// The number for C and for printed lines: 0 where nothing is refused.
+pub fn number_of<T: Drop>(answer: Result<T, Refusal>) -> u32
+    ensures { result ≡ number_answered answer }
+{
+    match answer {
+        Ok(_) => 0,
+        Err(refusal) => refusal.number(),
     }
 }
 

@@ -1,12 +1,14 @@
 // The advertisement frame: Ethernet, IPv4 header and VRRP message.
 ghost use Rattle.std.specs.Prelude.{◌≡◌, ◌+◌, ◌≤◌, ◌%◌, ◌++◌, length};
+ghost use Rattle.wire.specs.Refusal.{Tells};
 ghost use Rattle.writing.specs.Frame.{message_end, message_checksum, message_of, header_checksum, header_of, ethernet_of, frame_of};
 ghost use Rattle.writing.specs.Writing.{over, advertisement_refusal, AdvertisementWritten};
 
 use crate::addresses::address_bytes_wrong;
 use rooms::bytes::{high, lowest, second, third, top};
-use rooms::{Written, put};
+use rooms::put;
 use sums::{fold, number, plain_total};
+use wire::refusal::Refusal;
 
 // The checksum of the header that we write: all of it is known but the total length and the primary address.
 fn header_checksum(primary: u32, addresses: &[u8]) -> u32
@@ -116,27 +118,36 @@ pub fn put_advertisement(
     put(room, 42 + addresses.len(), &zeros)
 }
 
-// The refusal of direct writing: 14, 16, 17, 22 in that order, or 0.
-fn advertisement_refusal(vrid: u8, interval: u8, addresses: &[u8], room: usize) -> u32
-    ensures { result ≡ advertisement_refusal vrid interval addresses.now room }
+// The first of refusals 14, 16, 17 and 22 of direct writing that holds.
+#[tactic(auto, unfolding(crate::specs::Writing::advertisement_refusal))]
+fn advertisement_refusal(
+    vrid: u8,
+    interval: u8,
+    addresses: &[u8],
+    room: usize,
+) -> Result<(), Refusal>
+    ensures { Tells (advertisement_refusal vrid interval addresses.now room)
+        (50 + length addresses.now) result }
 {
     if vrid == 0 {
-        return 14;
+        return Err(Refusal::VridZero);
     }
     if interval == 0 {
-        return 16;
+        return Err(Refusal::IntervalZero);
     }
     if address_bytes_wrong(addresses) {
-        return 17;
+        return Err(Refusal::AddressBytes);
     }
-    if room < 50 + addresses.len() {
-        return 22;
+    let need = 50 + addresses.len();
+    if room < need {
+        return Err(Refusal::Room(need));
     }
-    0
+    Ok(())
 }
 
-// Writes the advertisement of a virtual router at the start of `out`; priority 0 is allowed.
+// Writes the advertisement of a virtual router at the start of `out`, and answers its length; priority 0 is allowed.
 // Refuses 14 (VRID 0), 16 (interval 0), 17 (address bytes) and 22 (room), in that order, and then leaves `out` as it was.
+#[tactic(auto, using(crate::proofs::Writes::advertisement_passed))]
 pub fn write_advertisement(
     vrid: u8,
     priority: u8,
@@ -144,18 +155,11 @@ pub fn write_advertisement(
     primary: u32,
     addresses: &[u8],
     out: &mut [u8],
-) -> Written
+) -> Result<usize, Refusal>
     ensures { AdvertisementWritten vrid priority interval primary addresses.now out.old
         result out.new }
 {
-    let need = 50 + addresses.len();
-    let refusal = advertisement_refusal(vrid, interval, addresses, out.len());
-    if refusal == 22 {
-        return Written::Short(need);
-    }
-    if refusal != 0 {
-        return Written::Refused(refusal);
-    }
+    advertisement_refusal(vrid, interval, addresses, out.len())?;
     put_advertisement(vrid, priority, interval, primary, addresses, out);
-    Written::Frame(need)
+    Ok(50 + addresses.len())
 }
