@@ -1,46 +1,51 @@
 // A station just configured.
 ghost use Rattle.std.specs.Prelude.{◌≡◌};
+ghost use Rattle.wire.specs.Refusal.{number_answered};
 ghost use Rattle.station.specs.Station.{station_of};
 ghost use Rattle.station.specs.Making.{station_refusal, made_of};
 
 use crate::station::{Station, Stepped};
 use configuring::{address_count, new_router};
 use events::answer::Answered;
-use rooms::put;
 use states::record::Router;
+use wire::refusal::Refusal;
 use writing::addresses::address_bytes_wrong;
 
-// The first of refusals 14 to 17, or 0.
-fn station_refusal(vrid: u8, priority: u8, interval: u8, addresses: &[u8]) -> u32
-    ensures { result ≡ station_refusal vrid priority interval addresses.now }
+// The first of refusals 14 to 17.
+#[tactic(auto, unfolding(crate::specs::Making::station_refusal))]
+fn station_refusal(
+    vrid: u8,
+    priority: u8,
+    interval: u8,
+    addresses: &[u8],
+) -> Result<(), Refusal>
+    ensures { number_answered result ≡ station_refusal vrid priority interval addresses.now }
 {
     if vrid == 0 {
-        return 14;
+        return Err(Refusal::VridZero);
     }
     if priority == 0 {
-        return 15;
+        return Err(Refusal::PriorityZero);
     }
     if interval == 0 {
-        return 16;
+        return Err(Refusal::IntervalZero);
     }
     if address_bytes_wrong(addresses) {
-        return 17;
+        return Err(Refusal::AddressBytes);
     }
-    0
+    Ok(())
 }
 
 // A station that has counted and sent nothing.
 fn station_of(primary: u32, router: Router, addresses: [u8; 64]) -> Station
     ensures { result ≡ station_of primary router addresses }
 {
-    let refusals = [0u32; 9];
-    let frame = [0u8; 114];
     Station {
-        primary: primary,
-        router: router,
-        refusals: refusals,
-        addresses: addresses,
-        frame: frame,
+        primary,
+        router,
+        refusals: [0; 9],
+        addresses,
+        frame: [0; 114],
         sent: 0,
     }
 }
@@ -56,16 +61,15 @@ pub fn new_station(
 ) -> Stepped
     ensures { result ≡ made_of vrid priority interval preempt primary addresses.now }
 {
-    let mut own = [0u8; 64];
-    let refusal = station_refusal(vrid, priority, interval, addresses);
-    if refusal != 0 {
+    let mut own = [0; 64];
+    if let Err(refusal) = station_refusal(vrid, priority, interval, addresses) {
         let none = new_router(0, 0, 0, false, 0);
         return Stepped {
             station: station_of(primary, none, own),
-            answer: Answered::Refused(refusal),
+            answer: Answered::Refused(refusal.number()),
         };
     }
-    put(&mut own, 0, addresses);
+    own[..addresses.len()].copy_from_slice(addresses);
     let fresh = new_router(vrid, priority, interval, preempt, address_count(addresses));
     Stepped {
         station: station_of(primary, fresh, own),
