@@ -2,6 +2,7 @@
 #![tactic(auto)]
 
 ghost use Rattle.std.specs.Prelude.{◌≡◌, ◌/◌, ◌≤◌, ◌<◌, length};
+ghost use Rattle.wire.specs.Refusal.{number_answered};
 ghost use Rattle.states.specs.Step.{state_number};
 ghost use Rattle.places.specs.Place.{record_at, set_record, place_of};
 ghost use Rattle.events.specs.Lists.{set_list};
@@ -9,9 +10,10 @@ ghost use Rattle.configuring.specs.Configuring.{empty_of, is_found, new_router, 
 
 use events::acting::seek;
 use events::lists::put_list;
-use places::place::{Found, find, load, store};
+use places::place::{find, load, store};
 use states::record::{Counts, Router, State};
 use states::step::state_number;
+use wire::refusal::Refusal;
 use writing::addresses::address_bytes_wrong;
 
 // Every word 0 but the primary address.
@@ -19,11 +21,7 @@ pub fn clear(words: &mut [u32], primary: u32)
     requires { length words.old ≡ 4096 }
     ensures { words.new ≡ empty_of primary }
 {
-    let mut k = 0;
-    while k < words.len() {
-        words[k] = 0;
-        k += 1;
-    }
+    words.fill(0);
     words[0] = primary;
 }
 
@@ -32,36 +30,39 @@ fn is_taken(words: &[u32], vrid: u8) -> bool
     requires { length words.now ≡ 4096 }
     ensures { result ≡ is_found (place_of words.now vrid) }
 {
-    match find(words, vrid) {
-        Found::At(_) => true,
-        Found::Nothing => false,
-    }
+    find(words, vrid).is_some()
 }
 
-// The first of refusals 14 to 19, or 0.
-fn configure_refusal(words: &[u32], vrid: u8, priority: u8, interval: u8, addresses: &[u8]) -> u32
+// The first of refusals 14 to 19, if any.
+fn configure_refusal(
+    words: &[u32],
+    vrid: u8,
+    priority: u8,
+    interval: u8,
+    addresses: &[u8],
+) -> Result<(), Refusal>
     requires { length words.now ≡ 4096 }
-    ensures { result ≡ configure_refusal words.now vrid priority interval addresses.now }
+    ensures { number_answered result ≡ configure_refusal words.now vrid priority interval addresses.now }
 {
     if vrid == 0 {
-        return 14;
+        return Err(Refusal::VridZero);
     }
     if priority == 0 {
-        return 15;
+        return Err(Refusal::PriorityZero);
     }
     if interval == 0 {
-        return 16;
+        return Err(Refusal::IntervalZero);
     }
     if address_bytes_wrong(addresses) {
-        return 17;
+        return Err(Refusal::AddressBytes);
     }
     if is_taken(words, vrid) {
-        return 18;
+        return Err(Refusal::VridTaken);
     }
     if !is_taken(words, 0) {
-        return 19;
+        return Err(Refusal::NoFreePlace);
     }
-    0
+    Ok(())
 }
 
 // A router that was configured just now.
@@ -115,22 +116,19 @@ pub fn set_up(
     interval: u8,
     preempt: bool,
     addresses: &[u8],
-) -> u32
+) -> Result<(), Refusal>
     requires { (length words.old ≡ 4096) × (length lists.old ≡ 16320) }
     ensures { Configured words.old lists.old vrid priority interval preempt
-        addresses.now result words.new lists.new }
+        addresses.now (number_answered result) words.new lists.new }
 {
-    let refusal = configure_refusal(words, vrid, priority, interval, addresses);
-    if refusal != 0 {
-        return refusal;
-    }
+    configure_refusal(words, vrid, priority, interval, addresses)?;
     match find(words, 0) {
-        Found::At(place) => {
+        Some(place) => {
             let fresh = new_router(vrid, priority, interval, preempt, address_count(addresses));
             fill(words, lists, place, fresh, addresses);
-            0
+            Ok(())
         }
-        Found::Nothing => 19,
+        None => Err(Refusal::NoFreePlace),
     }
 }
 
@@ -145,18 +143,14 @@ fn state_at(words: &[u32], place: usize) -> u32
 }
 
 // Frees the place of a virtual router in Initialize, or refuses by 20 or 21.
-pub fn free(words: &mut [u32], vrid: u8) -> u32
+pub fn free(words: &mut [u32], vrid: u8) -> Result<(), Refusal>
     requires { length words.old ≡ 4096 }
-    ensures { Removed words.old vrid result words.new }
+    ensures { Removed words.old vrid (number_answered result) words.new }
 {
-    match seek(words, vrid) {
-        Found::At(place) => {
-            if state_at(words, place) != 0 {
-                return 21;
-            }
-            store(words, place, new_router(0, 0, 0, false, 0));
-            0
-        }
-        Found::Nothing => 20,
+    let place = seek(words, vrid).ok_or(Refusal::NoRouter)?;
+    if state_at(words, place) != 0 {
+        return Err(Refusal::NotInInitialize);
     }
+    store(words, place, new_router(0, 0, 0, false, 0));
+    Ok(())
 }

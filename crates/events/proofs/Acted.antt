@@ -20,7 +20,8 @@ use Rattle.writing.specs.Writing.{over}
 use Rattle.output.specs.Output.{bytes_of, need_of}
 use Rattle.places.specs.Place.{primary_of, record_at, set_event}
 use Rattle.places.proofs.Records.{read_in_range}
-use Rattle.events.specs.declared.answer.Answered.TheVariants.{Done, Short}
+use Rattle.wire.specs.declared.refusal.Refusal.TheVariants.{Room}
+use Rattle.std.specs.Prelude.{Ok, Err}
 use Rattle.events.specs.Lists.{list_at}
 use Rattle.events.specs.Result.{Leaves, acted_of}
 use Rattle.events.specs.Turned.{turned_at}
@@ -28,13 +29,12 @@ use Rattle.events.proofs.Listed.{part_is_list, part_length}
 
 module _ (words lists : List ℕ) (place : ℕ) (outcome : Outcome) (leftover : ℕ) (room : List ℕ) (need : ℕ)
     (is_need : need ≡ need_of outcome.writes (4 * outcome.router.count)) where
-  pub acted_short : length room < need → Leaves (acted_of words lists place outcome leftover room) (Short need) words room
+  pub acted_short : length room < need → Leaves (acted_of words lists place outcome leftover room) (Err (Room need)) words room
   unfolding acted_of
   acted_short h =
       let t = lt-ltb (length room) need h in
       record {
         answer_is = rw (← is_need, t);
-        proper = tt;
         words_are = rw (← is_need, t);
         room_is = rw (← is_need, t);
       }
@@ -42,13 +42,12 @@ module _ (words lists : List ℕ) (place : ℕ) (outcome : Outcome) (leftover : 
   pub acted_done : (after room_after : List ℕ) → need ≤ length room → after ≡ set_event words place outcome.router
       → room_after
       ≡ over (bytes_of outcome.writes outcome.router (primary_of words) (list_at lists place outcome.router.count)) room
-      → Leaves (acted_of words lists place outcome leftover room) (Done need leftover) after room_after
+      → Leaves (acted_of words lists place outcome leftover room) (Ok (record { written = need; leftover = leftover })) after room_after
   unfolding acted_of
   acted_done after room_after h w o =
       let t = le-ltb (length room) need h in
       record {
         answer_is = rw (← is_need, t);
-        proper = tt;
         words_are = rw (← is_need, t, w);
         room_is = rw (← is_need, t, o);
       }
@@ -108,11 +107,11 @@ output_is words lists p heard t own room primary e f =
 
 -- an outcome that writes nothing is done in any room
 pub acted_silent : (words lists : List ℕ) (p : ℕ) (o : Outcome) (leftover : ℕ) (room after : List ℕ) → o.writes ≡ Nothing
-    → after ≡ set_event words p o.router → Leaves (acted_of words lists p o leftover room) (Done 0 leftover) after room
+    → after ≡ set_event words p o.router → Leaves (acted_of words lists p o leftover room) (Ok (record { written = 0; leftover = leftover })) after room
 unfolding acted_of
 acted_silent words lists p o leftover room after s w =
     let t = le-ltb (length room) 0 (omega arith) in
-    record { answer_is = rw (s, t); proper = tt; words_are = rw (s, t, w); room_is = rw (s, t) }
+    record { answer_is = rw (s, t); words_are = rw (s, t, w); room_is = rw (s, t) }
 
 -- what the code does with an event is what the table of states has it do
 pub turned_step : (words lists : List ℕ) (p : ℕ) (e : Event) (leftover : ℕ) (room : List ℕ) (t : Turn)

@@ -4,21 +4,22 @@ ghost use Rattle.places.specs.Place.{record_at, set_event};
 ghost use Rattle.events.specs.Result.{Leaves, router_place, acted_of};
 ghost use Rattle.events.specs.Turned.{heard_router, turned_at};
 
-use crate::answer::Answered;
+use crate::answer::Done;
 use output::{need, put_output};
 use places::interface::primary;
-use places::place::{Found, find, load, store_event};
+use places::place::{find, load, store_event};
 use router::accept::count_accepted;
 use states::record::{Router, Turn};
 use states::step::applied;
+use wire::refusal::Refusal;
 
 // The place of a virtual router, where it has one; number 0 has none.
-pub fn seek(words: &[u32], vrid: u8) -> Found
+pub fn seek(words: &[u32], vrid: u8) -> Option<usize>
     requires { length words.now ≡ 4096 }
     ensures { result ≡ router_place words.now vrid }
 {
     if vrid == 0 {
-        return Found::Nothing;
+        return None;
     }
     find(words, vrid)
 }
@@ -54,7 +55,7 @@ pub fn act(
     turn: Turn,
     leftover: u32,
     out: &mut [u8],
-) -> Answered
+) -> Result<Done, Refusal>
     requires { (place < 255) × (length words.old ≡ 4096) × (length lists.now ≡ 16320) }
     ensures { Leaves
         (acted_of words.old lists.now place
@@ -68,9 +69,12 @@ pub fn act(
     let list = &lists[start..end];
     let needed = need(writes, list);
     if out.len() < needed {
-        return Answered::Short(needed);
+        return Err(Refusal::Room(needed));
     }
     put_output(writes, own, primary(words), list, out);
     change(words, place, heard, turn);
-    Answered::Done(needed, leftover)
+    Ok(Done {
+        written: needed,
+        leftover: leftover,
+    })
 }

@@ -2,7 +2,7 @@
 -- Assumes nothing.
 use Rattle.std.proofs.Common.{◌≡◌, ℕ, Bool, true, false, not, ◌&&◌, ◌||◌, eqb, List, refl, ap, ◌∙◌, ne_eqb}
 use Rattle.judging.specs.declared.Fields.{Fields}
-use Rattle.judging.specs.declared.Judged.TheVariants.{Accepted, Refused as JudgedRefused}
+use Rattle.std.specs.Prelude.{Ok, Err}
 use Rattle.judging.specs.Judging.{judged_of}
 use Rattle.states.specs.declared.step.Outcome.{Outcome}
 use Rattle.router.specs.Accept.{refused_of}
@@ -48,12 +48,12 @@ module _ (s : Station) (packet : List ℕ) (f : Fields) (room : List ℕ) where
   sought_ours e = rw (is_other false e)
 
 module _ (s : Station) (packet room : List ℕ) where
-  pub heard_unfit : (number : ℕ) (stepped : Stepped) → judged_of packet ≡ JudgedRefused number
+  pub heard_unfit : (number : ℕ) (stepped : Stepped) → judged_of packet ≡ Err number
       → stepped ≡ refused_by s number
       → Leaves (heard_by s packet room) stepped room
   unfolding heard_by
   heard_unfit number stepped e w = record { answer_is = rw (e, w); station_is = rw (e, w); room_is = rw e }
 
-  pub heard_fit : (f : Fields) → judged_of packet ≡ Accepted f → sought_by s packet f room ≡ heard_by s packet room
+  pub heard_fit : (f : Fields) → judged_of packet ≡ Ok f → sought_by s packet f room ≡ heard_by s packet room
   unfolding heard_by
   heard_fit f e = rw e

@@ -1,9 +1,7 @@
 -- A packet that is handed over to a station (01, 'Refusal numbers', 'Counts').
-use Rattle.std.specs.Prelude.{ℕ, ◌-◌, cond, ◌&&◌, List, ◌==◌, slice_index, slice_set}
+use Rattle.std.specs.Prelude.{ℕ, ◌-◌, cond, ◌&&◌, List, ◌==◌, slice_index, slice_set, Ok, Err}
 use Rattle.judging.specs.declared.Fields.{Fields}
-use Rattle.judging.specs.declared.Judged.{Judged}
-use Rattle.judging.specs.declared.Judged.TheVariants.{Accepted, Refused}
-use Rattle.judging.specs.Judging.{judged_of}
+use Rattle.judging.specs.Judging.{Judged, judged_of}
 use Rattle.states.specs.declared.step.Event.TheVariants.{Packet}
 use Rattle.states.specs.declared.step.Outcome.{Outcome}
 use Rattle.states.specs.Step.{counted, step_of}
@@ -45,8 +43,8 @@ sought_by s packet fields room =
 
 -- "Packets, checked in this order": 1 to 8 first
 abbrev pub judged_by : Judged → Station → List ℕ → List ℕ → Result
-judged_by (Refused number) s packet room = refuses number (counted_by s number) room
-judged_by (Accepted fields) s packet room = sought_by s packet fields room
+judged_by (Err number) s packet room = refuses number (counted_by s number) room
+judged_by (Ok fields) s packet room = sought_by s packet fields room
 
 -- a packet, of any bytes
 unfoldable pub heard_by : Station → List ℕ → List ℕ → Result

@@ -10,11 +10,11 @@ ghost use Rattle.events.specs.Turned.{is_silent};
 ghost use Rattle.packets.specs.Packets.{refusal_at, accepted_at, heard_at, sought_at, heard_of};
 
 use events::acting::{act, change, seek};
-use events::answer::Answered;
+use events::answer::Done;
 use events::lists::lists_match;
-use judging::{Fields, Judged, judge};
+use judging::{Fields, judge};
 use places::interface::{count_refusal, primary};
-use places::place::{Found, count_at_place, load};
+use places::place::{count_at_place, load};
 use router::accept::{count_accepted, router_refusal};
 use states::record::Turn;
 use states::step::{Event, Writes, turn};
@@ -34,7 +34,7 @@ fn same_list(lists: &[u8], place: usize, count: u8, packet: &[u8], fields: Field
     lists_match(&lists[start..end], &packet[from..to])
 }
 
-// The first of refusals 10 to 13 that the router at a place gives a packet.
+// The first of refusals 10 to 13 that the router at a place gives a packet, if any.
 fn refusal_at(
     words: &[u32],
     lists: &[u8],
@@ -79,7 +79,7 @@ fn accept_at(
     place: usize,
     fields: Fields,
     out: &mut [u8],
-) -> Answered
+) -> Result<Done, Refusal>
     requires { (place < 255) × (length words.old ≡ 4096) × (length lists.now ≡ 16320) }
     ensures { Leaves
         (acted_of words.old lists.now place (accepted_at words.old place fields) 0
@@ -90,7 +90,10 @@ fn accept_at(
     let writes = changes.writes;
     if is_silent(writes) {
         change(words, place, true, changes);
-        return Answered::Done(0, 0);
+        return Ok(Done {
+            written: 0,
+            leftover: 0,
+        });
     }
     act(words, lists, place, true, changes, 0, out)
 }
@@ -103,7 +106,7 @@ fn hear_at(
     packet: &[u8],
     fields: Fields,
     out: &mut [u8],
-) -> Answered
+) -> Result<Done, Refusal>
     requires place_bound { (place < 255) × (length words.old ≡ 4096) × (length lists.now ≡ 16320) }
     requires count_in_bounds { fields.list + 4 * fields.count ≤ length packet.now }
     ensures { Leaves
@@ -111,9 +114,8 @@ fn hear_at(
         result words.new out.new }
 {
     if let Err(refusal) = refusal_at(words, lists, place, packet, fields) {
-        let number = refusal.number();
-        count_at_place(words, place, number);
-        return Answered::Refused(number);
+        count_at_place(words, place, refusal);
+        return Err(refusal);
     }
     accept_at(words, lists, place, fields, out)
 }
@@ -125,7 +127,7 @@ fn hear_judged(
     packet: &[u8],
     fields: Fields,
     out: &mut [u8],
-) -> Answered
+) -> Result<Done, Refusal>
     requires words_len { (length words.old ≡ 4096) × (length lists.now ≡ 16320) }
     requires count_in_bounds { fields.list + 4 * fields.count ≤ length packet.now }
     ensures { Leaves
@@ -134,26 +136,26 @@ fn hear_judged(
         result words.new out.new }
 {
     match seek(words, fields.vrid) {
-        Found::At(place) => hear_at(words, lists, place, packet, fields, out),
-        Found::Nothing => {
-            count_refusal(words, 9);
-            Answered::Refused(9)
+        Some(place) => hear_at(words, lists, place, packet, fields, out),
+        None => {
+            count_refusal(words, Refusal::UnknownVrid);
+            Err(Refusal::UnknownVrid)
         }
     }
 }
 
 // A packet of any bytes: done, or the first of refusals 1 to 13, which is counted, and 22.
-pub fn hear(words: &mut [u32], lists: &[u8], packet: &[u8], out: &mut [u8]) -> Answered
+pub fn hear(words: &mut [u32], lists: &[u8], packet: &[u8], out: &mut [u8]) -> Result<Done, Refusal>
     requires { (length words.old ≡ 4096) × (length lists.now ≡ 16320) }
     ensures { Leaves
         (heard_of words.old lists.now packet.now out.old)
         result words.new out.new }
 {
     match judge(packet) {
-        Judged::Accepted(fields) => hear_judged(words, lists, packet, fields, out),
-        Judged::Refused(number) => {
-            count_refusal(words, number as usize);
-            Answered::Refused(number)
+        Ok(fields) => hear_judged(words, lists, packet, fields, out),
+        Err(refusal) => {
+            count_refusal(words, refusal);
+            Err(refusal)
         }
     }
 }

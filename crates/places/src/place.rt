@@ -1,29 +1,21 @@
 // Reading, writing and finding a place.
 ghost use Rattle.std.specs.Prelude.{◌≡◌, ◌+◌, ◌<◌, ◌≤◌, length, ◌==◌};
 ghost use Rattle.std.proofs.Math.Seq.{paste};
+ghost use Rattle.wire.specs.Refusal.{refusal_number};
 ghost use Rattle.states.specs.Step.{state_number, with_state};
 ghost use Rattle.places.specs.Place.{record_at, set_record, state_word, set_event, count_at_place, place_of};
 
 use crate::layout::{decode, encode, state_of};
 use states::record::{Router, State};
 use states::step::state_number;
-
-#[derive(Clone, Copy)]
-pub enum Found {
-    At(usize),
-    Nothing,
-}
+use wire::refusal::Refusal;
 
 // Copies 16 words into the table from `at` on.
 fn put(words: &mut [u32], at: usize, from: &[u32; 16])
     requires { (at + 16 ≤ length words.old) × (length from.now ≡ 16) }
     ensures { words.new ≡ paste words.old at from.now 16 }
 {
-    let mut k = 0;
-    while k < 16 {
-        words[at + k] = from[k];
-        k += 1;
-    }
+    words[at..at + 16].copy_from_slice(from)
 }
 
 // The record at a place.
@@ -99,27 +91,26 @@ pub fn store_timer(words: &mut [u32], place: usize, ticks: u32)
 }
 
 // The table with a refusal of 10 to 13 counted for the router at a place.
-pub fn count_at_place(words: &mut [u32], place: usize, number: u32)
+pub fn count_at_place(words: &mut [u32], place: usize, refusal: Refusal)
     requires place_bound { (place < 255) × (length words.old ≡ 4096) }
-    requires le_number { (10 ≤ number) × (number ≤ 13) }
-    ensures { words.new ≡ count_at_place words.old place number }
+    requires le_number { (10 ≤ refusal_number refusal) × (refusal_number refusal ≤ 13) }
+    ensures { words.new ≡ count_at_place words.old place (refusal_number refusal) }
 {
-    let at = 16 + 16 * place + ((number - 1) as usize);
+    let number = refusal.number() as usize;
+    let at = 16 + 16 * place + (number - 1);
     words[at] = std::num::wrapping_add_u32(words[at], 1);
 }
 
 // The lowest place whose first word is `vrid`: the place of a virtual router, or for 0 the lowest free one.
-pub fn find(words: &[u32], vrid: u8) -> Found
+pub fn find(words: &[u32], vrid: u8) -> Option<usize>
     requires { length words.now ≡ 4096 }
     ensures { result ≡ place_of words.now vrid }
 {
-    let sought = vrid as u32;
-    let mut place: usize = 0;
-    while place < 255 {
+    let sought = u32::from(vrid);
+    for place in 0..255 {
         if words[16 + 16 * place] == sought {
-            return Found::At(place);
+            return Some(place);
         }
-        place += 1;
     }
-    Found::Nothing
+    None
 }

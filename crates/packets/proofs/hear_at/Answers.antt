@@ -1,18 +1,26 @@
 -- `packets::hear_at` meets its contract.
 -- Assumes nothing.
-use Rattle.std.proofs.Common.{arith, ◌∙◌}
-use Rattle.packets.proofs.Heard.{refused_range, heard_refused}
+use mathlib.Core.Path.{sym}
+use native.Mathlib.Omega.{arith}
+use Rattle.wire.proofs.Refusals.{nonzero}
+use Rattle.events.proofs.Sought.{leaves_equal}
+use Rattle.packets.proofs.Heard.{refused_range, heard_refused, heard_accepted}
 use Rattle.packets.proofs.hear_at.Goals as goal
 
 pub count_at_place-requires-clause-le_number : goal.count_at_place-requires-clause-le_number
 count_at_place-requires-clause-le_number c =
     let a = c.args in
-    let number = c.number-number.ensures.number ∙ c.in-Err.ensures in
-    refused_range a.words.now a.lists.now a.packet.now a.place a.fields _ number (λ e. omega arith)
+    refused_range a.words.now a.lists.now a.packet.now a.place a.fields _ c.in-Err.ensures (nonzero c.in-Err.refusal)
 
 pub returns-in-Err : goal.returns-in-Err
 returns-in-Err c =
     let a = c.args in
-    let number = c.number-number.ensures.number ∙ c.in-Err.ensures in
-    heard_refused a.words.now a.lists.now a.packet.now a.place a.fields a.out.now _ _ number (λ e. omega arith)
+    heard_refused a.words.now a.lists.now a.packet.now a.place a.fields a.out.now c.in-Err.refusal _ c.in-Err.ensures
     c.count_at_place.ensures
+
+pub returns : goal.returns
+returns c =
+    let a = c.args in
+    leaves_equal _ _ _ _ _
+    (heard_accepted a.words.now a.lists.now a.packet.now a.place a.fields a.out.now (sym c.in_default.ensures))
+    c.accept_at.ensures

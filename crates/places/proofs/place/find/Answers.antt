@@ -7,20 +7,19 @@ use Rattle.places.proofs.place.find.Goals as goal
 
 pub loop-place-init : goal.loop-place-init
 unfolding place_of
-loop-place-init c = (refl, omega arith, refl)
+loop-place-init c = refl
 
 pub returns-then-words-place : goal.returns-then-words-place
 returns-then-words-place c =
     let a = c.args in
-    sym (find_hit a.words.now a.vrid c.loop-place.place (omega arith) (omega arith)) ∙ c.loop-place.invariant.2
+    sym (find_hit a.words.now a.vrid c.loop-place.place (omega arith) (omega arith)) ∙ c.loop-place.invariant
 
 pub loop-place-preserved : goal.loop-place-preserved
 loop-place-preserved c =
     let a = c.args in
-    let miss = find_miss a.words.now a.vrid c.loop-place.place (omega arith) (λ z. c.if-words-place.false (z ∙ sym c.loop-place.invariant.0)) in
-    (c.loop-place.invariant.0, omega arith, sym miss ∙ c.loop-place.invariant.2)
+    sym (find_miss a.words.now a.vrid c.loop-place.place (omega arith) (λ z. omega arith)) ∙ c.loop-place.invariant
 
 pub returns : goal.returns
 returns c =
     let a = c.args in
-    sym (find_end a.words.now a.vrid c.loop-place.place (omega arith)) ∙ c.loop-place.invariant.2
+    sym (find_end a.words.now a.vrid c.loop-place.place (omega arith)) ∙ c.loop-place.invariant

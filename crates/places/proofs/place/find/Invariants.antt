@@ -5,8 +5,4 @@ use Rattle.places.specs.Place.{place_from, place_of}
 use Rattle.places.proofs.place.find.Given as goal
 
 abbrev pub invariant-loop-place : goal.invariant-loop-place
-invariant-loop-place l =
-    (l.sought ≡ l.vrid) × (l.place ≤ 255) × (place_from l.words l.vrid l.place (255 - l.place) ≡ place_of l.words l.vrid)
-
-abbrev pub decreases-loop-place : goal.decreases-loop-place
-decreases-loop-place l = 255 - l.place
+invariant-loop-place l = place_from l.words l.vrid l.place (255 - l.place) ≡ place_of l.words l.vrid
