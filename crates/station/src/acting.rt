@@ -3,9 +3,10 @@ ghost use Rattle.station.specs.Station.{Leaves};
 ghost use Rattle.station.specs.Acting.{acted_by};
 
 use crate::station::{Station, Stepped};
-use events::answer::Answered;
+use events::answer::Done;
 use output::{need, put_output};
 use states::step::Outcome;
+use wire::refusal::Refusal;
 
 // Writes the frames of an outcome and keeps the advertisement, or tells how much room they need.
 pub fn act(s: Station, outcome: Outcome, leftover: u32, out: &mut [u8]) -> Stepped
@@ -16,7 +17,7 @@ pub fn act(s: Station, outcome: Outcome, leftover: u32, out: &mut [u8]) -> Stepp
     if out.len() < needed {
         return Stepped {
             station: s,
-            answer: Answered::Short(needed),
+            answer: Err(Refusal::Room(needed)),
         };
     }
     put_output(outcome.writes, outcome.router, s.primary, list, out);
@@ -24,7 +25,10 @@ pub fn act(s: Station, outcome: Outcome, leftover: u32, out: &mut [u8]) -> Stepp
         router: outcome.router,
         ..s
     };
-    let answer = Answered::Done(needed, leftover);
+    let answer = Ok(Done {
+        written: needed,
+        leftover,
+    });
     if needed == 0 {
         return Stepped {
             station: after,

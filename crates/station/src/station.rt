@@ -2,8 +2,9 @@
 ghost use Rattle.std.specs.Prelude.{◌≡◌, ◌%◌, ◌≤◌, length};
 ghost use Rattle.station.specs.Station.{list_of, with_frame};
 
-use events::answer::Answered;
+use events::answer::Done;
 use states::record::Router;
+use wire::refusal::Refusal;
 
 #[derive(Clone, Copy)]
 pub struct Station {
@@ -49,5 +50,5 @@ impl Station {
 #[derive(Clone, Copy)]
 pub struct Stepped {
     pub station: Station,
-    pub answer: Answered,
+    pub answer: Result<Done, Refusal>,
 }
