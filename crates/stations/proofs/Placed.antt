@@ -1,7 +1,7 @@
--- What a step on the station of a number leaves of the list.
-use Rattle.std.proofs.Common.{◌≡◌, ℕ, ◌<◌, ◌≤◌, List, length, get_or, set, ap, subst, lt-ltb, le-ltb, ne_eqb}
-use Rattle.std.specs.Prelude.{Err}
-use Rattle.std.proofs.lemmas.List.{get_or_default}
+-- What a step on the station of a number leaves of the list, and time for the first stations.
+use Rattle.std.proofs.Common.{◌≡◌, ℕ, ◌<◌, ◌≤◌, List, ◌++◌, length, take, drop, get_or, set, ap, subst, lt-ltb, le-ltb, ne_eqb}
+use Rattle.std.specs.Prelude.{Err, map, min}
+use Rattle.std.proofs.lemmas.List.{get_or_default, take_min, drop_min}
 use Rattle.wire.specs.declared.refusal.Refusal.{Refusal}
 use Rattle.wire.specs.declared.refusal.Refusal.TheVariants.{UnusedStation}
 use Rattle.wire.specs.Refusal.{refusal_number, room_needed}
@@ -10,8 +10,9 @@ use Rattle.events.specs.Result.{Answered}
 use Rattle.station.specs.declared.station.Station.{Station}
 use Rattle.station.specs.declared.station.Stepped.{Stepped}
 use Rattle.station.specs.Station.{Result, Leaves}
+use Rattle.passing.specs.Passing.{passed}
 use Rattle.steps.specs.Steps.{delivered_to}
-use Rattle.stations.specs.List.{LeavesList, nowhere, stepped_at, delivery_refusal, delivered_at}
+use Rattle.stations.specs.List.{LeavesList, nowhere, stepped_at, delivery_refusal, delivered_at, all_passed}
 
 module _ (step : Station → List ℕ → Result) (stations : List Station) (at : ℕ) (room : List ℕ) where
   -- whatever is read past the end of the list
@@ -53,3 +54,9 @@ module _ (stations : List Station) (from to : ℕ) (room : List ℕ) where
   delivered_within e h sender s answer after left l =
       let there = lt-ltb to (length stations) h in
       rw (← e, ← s) (rw there at l)
+
+-- the first stations, as many as are used, have let the ticks pass
+pub passed_first : (ticks used end : ℕ) (stations after : List Station) → end ≡ min used (length stations)
+    → after ≡ map (λ (s : Station). passed s ticks) (take end stations) → after ++ drop end stations ≡ all_passed ticks used stations
+unfolding all_passed
+passed_first ticks used end stations after e h = rw (h, e, take_min used stations, drop_min used stations)
