@@ -8,7 +8,7 @@ ghost use Rattle.passing.specs.Elapsed.{due_in, counts_in, fired_of, elapsed_of}
 use states::record::{Counts, Router, State};
 use states::timers::advertisement_interval;
 use station::station::Station;
-use writing::frame::put_advertisement;
+use writing::frame::Advertisement;
 
 // Whether the timer fires within so many ticks.
 #[tactic(auto, unfolding(crate::specs::Elapsed::due_in))]
@@ -84,16 +84,15 @@ pub fn pass(s: Station, ticks: u32) -> Station
         ..s
     };
     if own.vrid != 0 && due(own, ticks) {
-        let list = s.list();
-        put_advertisement(
-            own.vrid,
-            own.priority,
-            own.interval,
-            s.primary,
-            list,
-            &mut after.frame,
-        );
-        after.sent = 50 + list.len();
+        let advertisement = Advertisement {
+            vrid: own.vrid,
+            priority: own.priority,
+            interval: own.interval,
+            primary: s.primary,
+            addresses: s.list(),
+        };
+        advertisement.put(&mut after.frame);
+        after.sent = 50 + advertisement.addresses.len();
     }
     after
 }

@@ -12,10 +12,10 @@ returns-then-due c =
     let s = c.args.s in
     let own = s.router in
     let long : length s.addresses ≡ 64 = search rules in
-    let list = c.list-list.ensures.list in
+    let list = c.list.ensures.list in
     passed_due s long c.args.ticks _ _ _ c.elapsed.ensures
     (rw (ne_eqb own.vrid 0 c.if-own-ne0.true, ← c.due.ensures) c.if-due.true)
-    (c.put_advertisement.ensures
+    (c.put.ensures
     ∙ ap (λ (l : List ℕ). over (frame_of own.vrid own.priority own.interval s.primary l) s.frame) list)
     (ap (λ (l : List ℕ). 50 + length l) list)
 
