@@ -5,7 +5,7 @@ use mathlib.Core.Bool.{false}
 use mathlib.Core.List.{List}
 use Prim.Native.Nat.{ℕ, ◌/◌, ◌%◌, ◌≤◌}
 use native.Mathlib.Omega.{arith}
-use lib.ListN.{length}
+use lib.ListN.{length, length-take}
 use Rattle.std.specs.Prelude.{Option, None, Some, is_some}
 use Rattle.headers.specs.declared.Unreadable.{Unreadable}
 use Rattle.headers.specs.Cause.{cause_answered}
@@ -30,6 +30,9 @@ readable packet e = let p = passed (causes packet) (omega arith) e in omega test
 pub cause_is : {r : ℕ} (packet : List ℕ) → First r (causes packet) → r ≡ cause_of packet
 unfolding cause_of
 cause_is packet h = first _ (causes packet) h
+
+-- and its header as a part of it
+pub ruleset reads = (readable, length-take)
 
 -- a packet that no cause of refusal 1 makes unreadable has its first 20 bytes
 pub readable_length : (packet : List ℕ) (found : Option Unreadable) → cause_answered found ≡ cause_of packet
