@@ -10,15 +10,14 @@ ghost use Rattle.configuring.specs.Configuring.{empty_of, is_found, new_router, 
 
 use events::acting::seek;
 use events::lists::put_list;
-use places::place::{find, load, store};
+use places::place::{Place, find, load, store};
 use states::record::{Counts, Router, State};
 use states::step::state_number;
 use wire::refusal::Refusal;
 use writing::addresses::address_bytes_wrong;
 
 // Every word 0 but the primary address.
-pub fn clear(words: &mut [u32], primary: u32)
-    requires { length words.old ≡ 4096 }
+pub fn clear(words: &mut [u32; 4096], primary: u32)
     ensures { words.new ≡ empty_of primary }
 {
     words.fill(0);
@@ -26,8 +25,7 @@ pub fn clear(words: &mut [u32], primary: u32)
 }
 
 // Whether some place has this first word: a virtual router's number, or 0 for a free place.
-fn is_taken(words: &[u32], vrid: u8) -> bool
-    requires { length words.now ≡ 4096 }
+fn is_taken(words: &[u32; 4096], vrid: u8) -> bool
     ensures { result ≡ is_found (place_of words.now vrid) }
 {
     find(words, vrid).is_some()
@@ -35,13 +33,12 @@ fn is_taken(words: &[u32], vrid: u8) -> bool
 
 // The first of refusals 14 to 19, if any.
 fn configure_refusal(
-    words: &[u32],
+    words: &[u32; 4096],
     vrid: u8,
     priority: u8,
     interval: u8,
     addresses: &[u8],
 ) -> Result<(), Refusal>
-    requires { length words.now ≡ 4096 }
     ensures { number_answered result ≡ configure_refusal words.now vrid priority interval addresses.now }
 {
     if vrid == 0 {
@@ -89,9 +86,14 @@ pub fn new_router(vrid: u8, priority: u8, interval: u8, preempt: bool, count: u8
 }
 
 // Puts a new router and its address bytes at a place.
-fn fill(words: &mut [u32], lists: &mut [u8], place: usize, fresh: Router, addresses: &[u8])
-    requires place_bound { (place < 255) × (length words.old ≡ 4096) × (length lists.old ≡ 16320) }
-    requires addresses_len_bound { length addresses.now ≤ 64 }
+fn fill(
+    words: &mut [u32; 4096],
+    lists: &mut [u8; 16320],
+    place: Place,
+    fresh: Router,
+    addresses: &[u8],
+)
+    requires { length addresses.now ≤ 64 }
     ensures words { words.new ≡ set_record words.old place fresh }
     ensures lists { lists.new ≡ set_list lists.old place addresses.now }
 {
@@ -109,15 +111,14 @@ pub fn address_count(addresses: &[u8]) -> u8
 
 // Configures a virtual router at the lowest free place, or refuses by 14 to 19.
 pub fn set_up(
-    words: &mut [u32],
-    lists: &mut [u8],
+    words: &mut [u32; 4096],
+    lists: &mut [u8; 16320],
     vrid: u8,
     priority: u8,
     interval: u8,
     preempt: bool,
     addresses: &[u8],
 ) -> Result<(), Refusal>
-    requires { (length words.old ≡ 4096) × (length lists.old ≡ 16320) }
     ensures { Configured words.old lists.old vrid priority interval preempt
         addresses.now (number_answered result) words.new lists.new }
 {
@@ -133,8 +134,7 @@ pub fn set_up(
 }
 
 // The number of the state of the router at a place.
-fn state_at(words: &[u32], place: usize) -> u32
-    requires { (place < 255) × (length words.now ≡ 4096) }
+fn state_at(words: &[u32; 4096], place: Place) -> u32
     ensures { result ≡ state_number (record_at words.now place).state }
 {
     let found = load(words, place);
@@ -143,8 +143,7 @@ fn state_at(words: &[u32], place: usize) -> u32
 }
 
 // Frees the place of a virtual router in Initialize, or refuses by 20 or 21.
-pub fn free(words: &mut [u32], vrid: u8) -> Result<(), Refusal>
-    requires { length words.old ≡ 4096 }
+pub fn free(words: &mut [u32; 4096], vrid: u8) -> Result<(), Refusal>
     ensures { Removed words.old vrid (number_answered result) words.new }
 {
     let place = seek(words, vrid).ok_or(Refusal::NoRouter)?;

@@ -2,6 +2,7 @@
 #![tactic(auto)]
 
 ghost use Rattle.std.specs.Prelude.{◌≡◌, ◌+◌, ◌*◌, ◌≤◌, length};
+ghost use Rattle.wire.specs.Refusal.{number_answered};
 ghost use Rattle.station.specs.Station.{Leaves};
 ghost use Rattle.hearing.specs.Hearing.{counted_by, refused_by, refusal_by, accepted_by, sought_by, heard_by};
 
@@ -12,18 +13,18 @@ use router::accept::{count_accepted, count_refusal, router_refusal};
 use states::step::{Event, step};
 use station::acting::{act, list_bytes, with_router};
 use station::station::{Station, Stepped};
+use wire::refusal::Refusal;
 
 // The station with a refusal of 1 to 9 counted.
+#[tactic(auto, unfolding(crate::specs::Hearing::counted_by))]
 fn count_number(s: Station, number: u32) -> Station
     requires { (1 ≤ number) × (number ≤ 9) }
     ensures { result ≡ counted_by s number }
 {
     let at = (number - 1) as usize;
     let mut refusals = s.refusals;
-    refusals[at] = std::num::wrapping_add_u32(refusals[at], 1);
-    let mut after = s;
-    after.refusals = refusals;
-    after
+    refusals[at] = refusals[at].wrapping_add(1);
+    Station { refusals, ..s }
 }
 
 // Refuses by 1 to 9, which counts.
@@ -38,10 +39,10 @@ fn refuse(s: Station, number: u32) -> Stepped
     }
 }
 
-// The first of refusals 10 to 13 that a station's router gives a packet, or 0.
-fn refusal_of(s: Station, packet: &[u8], fields: Fields) -> u32
+// The first of refusals 10 to 13 that a station's router gives a packet.
+fn refusal_of(s: Station, packet: &[u8], fields: Fields) -> Result<(), Refusal>
     requires { fields.list + 4 * fields.count ≤ length packet.now }
-    ensures { result ≡ refusal_by s packet.now fields }
+    ensures { number_answered result ≡ refusal_by s packet.now fields }
 {
     let addresses = s.addresses;
     let own = s.router;
@@ -58,12 +59,10 @@ fn hear_fields(s: Station, packet: &[u8], fields: Fields, out: &mut [u8]) -> Ste
     ensures { Leaves (accepted_by s packet.now fields out.old) result out.new }
 {
     let own = s.router;
-    let refusal = refusal_of(s, packet, fields);
-    if refusal != 0 {
-        let station = with_router(s, count_refusal(own, refusal));
+    if let Err(refusal) = refusal_of(s, packet, fields) {
         return Stepped {
-            station: station,
-            answer: Answered::Refused(refusal),
+            station: with_router(s, count_refusal(own, refusal)),
+            answer: Answered::Refused(refusal.number()),
         };
     }
     let event = Event::Packet(fields.priority, fields.source);

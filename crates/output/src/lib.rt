@@ -19,8 +19,7 @@ pub fn need(writes: Writes, list: &[u8]) -> usize
     let frame = 50 + list.len();
     match writes {
         Writes::Nothing => 0,
-        Writes::Advertisement => frame,
-        Writes::Farewell => frame,
+        Writes::Advertisement | Writes::Farewell => frame,
         Writes::Takeover => frame + 42 * (list.len() / 4),
     }
 }
@@ -31,14 +30,9 @@ fn put_arps(vrid: u8, list: &[u8], room: &mut [u8])
     requires list_in_bounds { 42 * (length list.now / 4) ≤ length room.old }
     ensures { room.new ≡ over (arps_of vrid list.now) room.old }
 {
-    let addresses = list.len() / 4;
-    let mut k = 0;
-    while k < addresses {
-        let from = 4 * k;
-        let at = 42 * k;
-        let address = number(list[from], list[from + 1], list[from + 2], list[from + 3]);
-        put_arp(vrid, address, &mut room[at..]);
-        k += 1;
+    for (k, address) in list.chunks_exact(4).enumerate() {
+        let address = number(address[0], address[1], address[2], address[3]);
+        put_arp(vrid, address, &mut room[42 * k..]);
     }
 }
 

@@ -5,7 +5,6 @@ use native.Mathlib.Omega.{arith}
 use Rattle.std.specs.Prelude.{Some, None}
 use Rattle.std.proofs.lemmas.Result.{err_from_is_err_and}
 use Rattle.wire.specs.declared.refusal.Refusal.TheVariants.{NoRouter}
-use Rattle.events.proofs.Sought.{sought_below}
 use Rattle.configuring.proofs.Configures.{remove_unknown, remove_busy, remove_done}
 use Rattle.configuring.proofs.free.Goals as goal
 
@@ -17,25 +16,11 @@ returns-in_err-place c =
     let why : c.in_err-place.field-0.0 ≡ NoRouter = grind arith in
     rw (p.1, p.2, why) (remove_unknown a.words.now a.vrid (sym c.seek.ensures ∙ none))
 
-pub state_at-requires : goal.state_at-requires
-state_at-requires c =
-    let a = c.args in
-    let found : c.seek.result ≡ Some c.in_ok-place.place = grind arith in
-    let below = sought_below a.words.now a.vrid c.in_ok-place.place (sym c.seek.ensures ∙ found) in
-    omega arith
-
 pub returns-then-state_at-ne0 : goal.returns-then-state_at-ne0
 returns-then-state_at-ne0 c =
     let a = c.args in
     let found : c.seek.result ≡ Some c.in_ok-place.place = grind arith in
     remove_busy a.words.now a.vrid c.in_ok-place.place (sym c.seek.ensures ∙ found) (λ z. let none = c.state_at.ensures ∙ z in omega arith)
-
-pub store-requires : goal.store-requires
-store-requires c =
-    let a = c.args in
-    let found : c.seek.result ≡ Some c.in_ok-place.place = grind arith in
-    let below = sought_below a.words.now a.vrid c.in_ok-place.place (sym c.seek.ensures ∙ found) in
-    omega arith
 
 pub returns : goal.returns
 returns c =

@@ -1,8 +1,6 @@
 -- `configuring::set_up` meets its contract: refused, or at the lowest free place.
 -- Assumes nothing.
 use mathlib.Core.Path.{sym, ◌∙◌}
-use native.Mathlib.Omega.{arith}
-use Rattle.places.proofs.Finding.{found}
 use Rattle.configuring.proofs.Configures.{configure_refused, configure_done, never_full, configure_most}
 use Rattle.configuring.proofs.set_up.Goals as goal
 
@@ -14,9 +12,7 @@ address_count-requires c =
 pub fill-requires : goal.fill-requires
 fill-requires c =
     let a = c.args in
-    let most = configure_most a.words.now a.vrid a.priority a.interval a.addresses.now (sym c.in_ok-configure_refusal.ensures) in
-    let free = found a.words.now 0 _ (sym c.find.ensures ∙ c.in-Some.is) in
-    omega (arith, free.below)
+    configure_most a.words.now a.vrid a.priority a.interval a.addresses.now (sym c.in_ok-configure_refusal.ensures)
 
 pub returns-in-Some : goal.returns-in-Some
 returns-in-Some c =
