@@ -3,16 +3,14 @@
 
 ghost use Rattle.std.specs.Prelude.{◌≡◌, ◌/◌, ◌≤◌, ◌<◌, length};
 ghost use Rattle.wire.specs.Refusal.{number_answered};
-ghost use Rattle.states.specs.Step.{state_number};
-ghost use Rattle.places.specs.Place.{record_at, set_record, place_of};
+ghost use Rattle.places.specs.Place.{set_record, place_of};
 ghost use Rattle.events.specs.Lists.{set_list};
-ghost use Rattle.configuring.specs.Configuring.{empty_of, is_found, new_router, configure_refusal, Configured, Removed};
+ghost use Rattle.configuring.specs.Configuring.{empty_of, is_found, new_router, settings_refusal, configure_refusal, Configured, Removed};
 
 use events::acting::seek;
 use events::lists::put_list;
 use places::place::{Place, find, load, store};
 use states::record::{Counts, Router, State};
-use states::step::state_number;
 use wire::refusal::Refusal;
 use writing::addresses::address_bytes_wrong;
 
@@ -31,29 +29,48 @@ fn is_taken(words: &[u32; 4096], vrid: u8) -> bool
     find(words, vrid).is_some()
 }
 
-// The first of refusals 14 to 19, if any.
-fn configure_refusal(
-    words: &[u32; 4096],
-    vrid: u8,
-    priority: u8,
-    interval: u8,
-    addresses: &[u8],
-) -> Result<(), Refusal>
-    ensures { number_answered result ≡ configure_refusal words.now vrid priority interval addresses.now }
+// What a virtual router is configured with, beside its addresses.
+#[derive(Clone, Copy)]
+pub struct Settings {
+    pub vrid: u8,
+    pub priority: u8,
+    // in seconds
+    pub interval: u8,
+    pub preempt: bool,
+}
+
+// The first of refusals 14 to 17, if any: those that no table decides.
+#[tactic(auto, unfolding(crate::specs::Configuring::settings_refusal))]
+pub fn settings_refusal(settings: Settings, addresses: &[u8]) -> Result<(), Refusal>
+    ensures { number_answered result ≡ settings_refusal settings.vrid settings.priority settings.interval
+        addresses.now }
 {
-    if vrid == 0 {
+    if settings.vrid == 0 {
         return Err(Refusal::VridZero);
     }
-    if priority == 0 {
+    if settings.priority == 0 {
         return Err(Refusal::PriorityZero);
     }
-    if interval == 0 {
+    if settings.interval == 0 {
         return Err(Refusal::IntervalZero);
     }
     if address_bytes_wrong(addresses) {
         return Err(Refusal::AddressBytes);
     }
-    if is_taken(words, vrid) {
+    Ok(())
+}
+
+// The first of refusals 14 to 19, if any.
+fn configure_refusal(
+    words: &[u32; 4096],
+    settings: Settings,
+    addresses: &[u8],
+) -> Result<(), Refusal>
+    ensures { number_answered result ≡ configure_refusal words.now settings.vrid settings.priority
+        settings.interval addresses.now }
+{
+    settings_refusal(settings, addresses)?;
+    if is_taken(words, settings.vrid) {
         return Err(Refusal::VridTaken);
     }
     if !is_taken(words, 0) {
@@ -113,33 +130,23 @@ pub fn address_count(addresses: &[u8]) -> u8
 pub fn set_up(
     words: &mut [u32; 4096],
     lists: &mut [u8; 16320],
-    vrid: u8,
-    priority: u8,
-    interval: u8,
-    preempt: bool,
+    settings: Settings,
     addresses: &[u8],
 ) -> Result<(), Refusal>
-    ensures { Configured words.old lists.old vrid priority interval preempt
+    ensures { Configured words.old lists.old settings.vrid settings.priority settings.interval settings.preempt
         addresses.now (number_answered result) words.new lists.new }
 {
-    configure_refusal(words, vrid, priority, interval, addresses)?;
-    match find(words, 0) {
-        Some(place) => {
-            let fresh = new_router(vrid, priority, interval, preempt, address_count(addresses));
-            fill(words, lists, place, fresh, addresses);
-            Ok(())
-        }
-        None => Err(Refusal::NoFreePlace),
-    }
-}
-
-// The number of the state of the router at a place.
-fn state_at(words: &[u32; 4096], place: Place) -> u32
-    ensures { result ≡ state_number (record_at words.now place).state }
-{
-    let found = load(words, place);
-    let state = found.state;
-    state_number(state)
+    configure_refusal(words, settings, addresses)?;
+    let place = find(words, 0).ok_or(Refusal::NoFreePlace)?;
+    let Settings {
+        vrid,
+        priority,
+        interval,
+        preempt,
+    } = settings;
+    let fresh = new_router(vrid, priority, interval, preempt, address_count(addresses));
+    fill(words, lists, place, fresh, addresses);
+    Ok(())
 }
 
 // Frees the place of a virtual router in Initialize, or refuses by 20 or 21.
@@ -147,7 +154,7 @@ pub fn free(words: &mut [u32; 4096], vrid: u8) -> Result<(), Refusal>
     ensures { Removed words.old vrid (number_answered result) words.new }
 {
     let place = seek(words, vrid).ok_or(Refusal::NoRouter)?;
-    if state_at(words, place) != 0 {
+    if load(words, place).state != State::Initialize {
         return Err(Refusal::NotInInitialize);
     }
     store(words, place, new_router(0, 0, 0, false, 0));

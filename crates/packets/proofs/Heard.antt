@@ -14,8 +14,7 @@ use Rattle.judging.proofs.Accepted.{refused_most}
 use Rattle.states.specs.declared.record.Turn.{Turn}
 use Rattle.states.specs.declared.step.Event.TheVariants.{Packet}
 use Rattle.states.specs.declared.step.Outcome.{Outcome}
-use Rattle.states.specs.declared.step.Writes.{Writes}
-use Rattle.states.specs.declared.step.Writes.TheVariants.{Nothing as WritesNothing, Advertisement, Farewell, Takeover}
+use Rattle.states.specs.declared.step.Writes.TheVariants.{Nothing}
 use Rattle.states.specs.Turn.{turn_of}
 use Rattle.states.proofs.Turning.{applied_turn}
 use Rattle.router.specs.Accept.{list_differs, router_refusal, accepted_of}
@@ -26,7 +25,7 @@ use Rattle.wire.specs.Refusal.{refusal_number, room_needed}
 use Rattle.wire.proofs.Refusals.{nonzero, no_room}
 use Rattle.events.specs.Lists.{list_at, their_list, lists_match}
 use Rattle.events.specs.Result.{Leaves, router_place, acted_of}
-use Rattle.events.specs.Turned.{turned_at, is_silent}
+use Rattle.events.specs.Turned.{turned_at}
 use Rattle.events.proofs.Acted.{acted_silent}
 use Rattle.events.proofs.Sought.{leaves_equal}
 use Rattle.packets.specs.Packets.{refusal_at, accepted_at, heard_at, sought_at, heard_of}
@@ -49,12 +48,6 @@ refused_range words lists packet p f number e n =
     (not (eqb f.interval r.interval))
     number e n
 
-silent_test : (w : Writes) → is_silent w ≡ true → w ≡ WritesNothing
-silent_test WritesNothing e = refl
-silent_test Advertisement e = absurd (let z : ◌≡◌ {A = ℕ} 0 1 = cc in omega arith)
-silent_test Farewell e = absurd (let z : ◌≡◌ {A = ℕ} 0 1 = cc in omega arith)
-silent_test Takeover e = absurd (let z : ◌≡◌ {A = ℕ} 0 1 = cc in omega arith)
-
 module _ (words lists : List ℕ) (p : ℕ) (f : Fields) (room : List ℕ) where
   -- what the code does with an accepted packet is what the table of states has it do
   accepted_turn : (t : Turn) → t ≡ turn_of (accepted_at words p f) → turned_at words p true t ≡ accepted_at words p f
@@ -66,12 +59,12 @@ module _ (words lists : List ℕ) (p : ℕ) (f : Fields) (room : List ℕ) where
       → acted_of words lists p (turned_at words p true t) 0 room ≡ acted_of words lists p (accepted_at words p f) 0 room
   accepted_acts t h = ap (λ (o : Outcome). acted_of words lists p o 0 room) (accepted_turn t h)
 
-  pub accepted_silent : (t : Turn) (after : List ℕ) → t ≡ turn_of (accepted_at words p f) → is_silent t.writes ≡ true
+  pub accepted_silent : (t : Turn) (after : List ℕ) → t ≡ turn_of (accepted_at words p f) → t.writes ≡ Nothing
       → after ≡ set_event words p (turned_at words p true t).router
       → Leaves (acted_of words lists p (accepted_at words p f) 0 room) (Ok (record { written = 0; leftover = 0 })) after room
   accepted_silent t after h s w =
       leaves_equal _ _ _ _ _ (accepted_acts t h)
-      (acted_silent words lists p (turned_at words p true t) 0 room after (silent_test t.writes s) w)
+      (acted_silent words lists p (turned_at words p true t) 0 room after s w)
 
 module _ (words lists packet : List ℕ) (p : ℕ) (f : Fields) (room : List ℕ) where
   pub heard_refused : (reason : Refusal) (after : List ℕ) → refusal_number reason ≡ refusal_at words lists p packet f

@@ -5,7 +5,6 @@ ghost use Rattle.std.specs.Prelude.{◌≡◌};
 ghost use Rattle.wire.specs.Refusal.{number_answered};
 ghost use Rattle.states.specs.Turn.{turn_of};
 ghost use Rattle.events.specs.Result.{Leaves, router_place, acted_of};
-ghost use Rattle.events.specs.Turned.{is_silent};
 ghost use Rattle.packets.specs.Packets.{refusal_at, accepted_at, heard_at, sought_at, heard_of};
 
 use events::acting::{act, change, seek};
@@ -34,18 +33,6 @@ fn refusal_at(
     router_refusal(own, heard.fields, same)
 }
 
-// Whether nothing is written.
-fn is_silent(writes: Writes) -> bool
-    ensures { result ≡ is_silent writes }
-{
-    match writes {
-        Writes::Nothing => true,
-        Writes::Advertisement => false,
-        Writes::Farewell => false,
-        Writes::Takeover => false,
-    }
-}
-
 // What an accepted packet changes of the router at a place.
 fn turn_at(words: &[u32; 4096], place: Place, fields: Fields) -> Turn
     ensures { result ≡ turn_of (accepted_at words.now place fields) }
@@ -68,8 +55,7 @@ fn accept_at(
         result words.new out.new }
 {
     let changes = turn_at(words, place, fields);
-    let writes = changes.writes;
-    if is_silent(writes) {
+    if matches!(changes.writes, Writes::Nothing) {
         change(words, place, true, changes);
         return Ok(Done {
             written: 0,

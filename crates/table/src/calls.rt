@@ -7,7 +7,7 @@ ghost use Rattle.configuring.specs.Configuring.{empty_of, Configured, Removed};
 ghost use Rattle.events.specs.Events.{happened_of, clocked_of, asked_of, Tells, interface_count};
 ghost use Rattle.packets.specs.Packets.{heard_of};
 
-use configuring::{clear, free, set_up};
+use configuring::{Settings, clear, free, set_up};
 use events::answer::Done;
 use events::{happen, tell, tick};
 use packets::hear;
@@ -36,7 +36,13 @@ pub fn configure(
     ensures { Configured words.old lists.old vrid priority interval preempt
         addresses.now (number_answered result) words.new lists.new }
 {
-    set_up(words, lists, vrid, priority, interval, preempt, addresses)
+    let settings = Settings {
+        vrid,
+        priority,
+        interval,
+        preempt,
+    };
+    set_up(words, lists, settings, addresses)
 }
 
 // Removes a virtual router in Initialize, or refuses by 20 or 21.

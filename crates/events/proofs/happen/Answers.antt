@@ -2,15 +2,8 @@
 -- Assumes nothing.
 use mathlib.Core.Path.{refl, sym, ◌∙◌}
 use Rattle.wire.specs.declared.refusal.Refusal.TheVariants.{NoRouter}
-use native.Mathlib.Omega.{arith}
-use Rattle.events.proofs.Sought.{sought_below, leaves_equal, leaves_refused, happened, not_happened}
+use Rattle.events.proofs.Sought.{leaves_equal, leaves_refused, happened, not_happened}
 use Rattle.events.proofs.happen.Goals as goal
-
-pub happen_at-requires : goal.happen_at-requires
-happen_at-requires c =
-    let a = c.args in
-    let below = sought_below a.words.now a.vrid _ (sym c.seek.ensures ∙ c.in-Some.is) in
-    omega arith
 
 pub returns-in-Some : goal.returns-in-Some
 returns-in-Some c =

@@ -1,16 +1,8 @@
 -- `events::tell` meets its contract.
 -- Assumes nothing.
 use mathlib.Core.Path.{refl, sym, ◌∙◌}
-use native.Mathlib.Omega.{arith}
 use Rattle.events.specs.Events.{asked_of}
-use Rattle.events.proofs.Sought.{sought_below}
 use Rattle.events.proofs.tell.Goals as goal
-
-pub load-requires : goal.load-requires
-load-requires c =
-    let a = c.args in
-    let below = sought_below a.words.now a.vrid _ (sym c.seek.ensures ∙ c.in-Some.is) in
-    omega arith
 
 pub returns-in-Some : goal.returns-in-Some
 unfolding asked_of
