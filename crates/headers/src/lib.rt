@@ -91,10 +91,11 @@ fn not_ours(packet: &[u8]) -> bool
 }
 
 // The first of refusals 1 to 4 that holds.
+#[tactic(auto, using(crate::proofs::Readable::readable))]
 pub fn header_refusal(packet: &[u8]) -> Result<(), Refusal>
     ensures { number_answered result ≡ first_refusal (header_checks packet.now) }
 {
-    if cause(packet).is_some() {
+    if let Some(_) = cause(packet) {
         return Err(Refusal::IpHeader);
     }
     if header_sum_wrong(packet) {

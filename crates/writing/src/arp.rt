@@ -1,6 +1,6 @@
 // The gratuitous ARP frame.
 ghost use Rattle.std.specs.Prelude.{◌≡◌, ◌≤◌, length};
-ghost use Rattle.wire.specs.Refusal.{Tells};
+ghost use Rattle.wire.specs.Refusal.{RefusedBy};
 ghost use Rattle.writing.specs.Arp.{arp_start, arp_end, arp_of};
 ghost use Rattle.writing.specs.Writing.{over, arp_refusal, ArpWritten};
 
@@ -34,16 +34,14 @@ pub fn put_arp(vrid: u8, address: u32, room: &mut [u8])
     requires { 42 ≤ length room.old }
     ensures { room.new ≡ over (arp_of vrid address) room.old }
 {
-    let head = arp_head(vrid);
-    let tail = arp_tail(vrid, address);
-    put(room, 0, &head);
-    put(room, 22, &tail)
+    put(room, 0, &arp_head(vrid));
+    put(room, 22, &arp_tail(vrid, address))
 }
 
 // The first of refusals 14 and 22 of writing one ARP frame that holds.
 #[tactic(auto, unfolding(crate::specs::Writing::arp_refusal))]
 fn arp_refusal(vrid: u8, room: usize) -> Result<(), Refusal>
-    ensures { Tells (arp_refusal vrid room) 42 result }
+    ensures { RefusedBy (arp_refusal vrid room) 42 result }
 {
     if vrid == 0 {
         return Err(Refusal::VridZero);
