@@ -10,6 +10,7 @@ use std::io::Read;
 
 fn main(rt: HostRuntime) -> io::Result<()> {
     let mut packet = Vec::new(rt.alloc());
+    // no packet is longer
     rt.stdin().take(65536).read_to_end(&mut packet)?;
     match judge(&packet) {
         Ok(fields) => announced(&packet, fields).write(&mut rt.stdout()),
