@@ -1,15 +1,21 @@
 -- The theorems that specs/Theorems.antt states.
 -- Assumes nothing.
-use mathlib.Core.Path.{refl, sym, ap, ◌∙◌}
-use Rattle.std.specs.Prelude.{Ok, Err}
+use mathlib.Core.Path.{◌≡◌, refl, sym, ◌∙◌}
+use Rattle.std.specs.Prelude.{Result, Ok, Err}
+use Rattle.wire.specs.declared.refusal.Refusal.{Refusal}
+use Rattle.wire.specs.Refusal.{number_answered, room_answered}
 use Rattle.wire.specs.Theorems.{OneValue, OneRefusal}
-use Rattle.wire.proofs.Refusals.{same_number, nonzero}
+use Rattle.wire.proofs.Refusals.{no_room, same_answer}
 
 pub one_value : OneValue
 one_value A value a b x y = x ∙ sym y
 
+no_room_answered : (answer : Result Unit Refusal) → ¬ (number_answered answer ≡ 22) → room_answered answer ≡ 0
+no_room_answered (Ok value) n = refl
+no_room_answered (Err refusal) n = no_room refusal n
+
 pub one_refusal : OneRefusal
-one_refusal number (Ok u) (Ok v) n x y = refl
-one_refusal number (Ok u) (Err q) n x y = absurd (nonzero q (y ∙ sym x))
-one_refusal number (Err p) (Ok v) n x y = absurd (nonzero p (x ∙ sym y))
-one_refusal number (Err p) (Err q) n x y = ap Err (same_number p q (x ∙ sym y) (λ e. n (sym x ∙ e)))
+one_refusal number a b n x y =
+    same_answer a b (x ∙ sym y)
+    (no_room_answered a (λ e. n (sym x ∙ e)) ∙ sym (no_room_answered b (λ e. n (sym y ∙ e))))
+    (λ p q e f. refl)

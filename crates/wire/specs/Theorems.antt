@@ -1,4 +1,4 @@
--- The theorems of promises that are an equation; each is proved under the same name in proofs/Theorems.antt.
+-- The theorems of promises that are an equation or a refusal's number; each is proved under the same name in proofs/Theorems.antt.
 use Rattle.std.specs.Prelude.{ℕ, ◌≡◌, Result}
 use Rattle.wire.specs.declared.refusal.Refusal.{Refusal}
 use Rattle.wire.specs.Refusal.{number_answered}
@@ -7,7 +7,7 @@ use Rattle.wire.specs.Refusal.{number_answered}
 abbrev pub OneValue : Type 1
 OneValue = (A : Type 0) (value a b : A) → a ≡ value → b ≡ value → a ≡ b
 
--- the number alone decides an answer that has no value, where it is not 22
+-- the same of a check whose number is promised: each but 22, which has the room needed beside it, says the whole answer
 abbrev pub OneRefusal : Type 0
 OneRefusal =
     (number : ℕ) (a b : Result Unit Refusal) → ¬ (number ≡ 22) → number_answered a ≡ number → number_answered b ≡ number
