@@ -84,13 +84,13 @@ pub fn new_router(vrid: u8, priority: u8, interval: u8, preempt: bool, count: u8
     ensures { result ≡ new_router vrid priority interval preempt count }
 {
     Router {
-        vrid: vrid,
-        priority: priority,
-        interval: interval,
-        preempt: preempt,
+        vrid,
+        priority,
+        interval,
+        preempt,
         state: State::Initialize,
         timer: 0,
-        count: count,
+        count,
         counts: Counts {
             accepted: 0,
             became: 0,

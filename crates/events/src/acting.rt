@@ -68,6 +68,6 @@ pub fn act(
     change(words, place, heard, turn);
     Ok(Done {
         written: needed,
-        leftover: leftover,
+        leftover,
     })
 }
