@@ -1,17 +1,12 @@
 -- The causes of refusal 1: which of them is the first, and what a packet with none is, on which every read of it leans.
 -- Assumes nothing.
-use mathlib.Core.Path.{◌≡◌, sym}
-use mathlib.Core.Bool.{false}
+use mathlib.Core.Path.{◌≡◌}
 use mathlib.Core.List.{List}
 use Prim.Native.Nat.{ℕ, ◌/◌, ◌%◌, ◌≤◌}
 use native.Mathlib.Omega.{arith}
-use lib.ListN.{length}
-use Rattle.std.specs.Prelude.{Option, None, Some, is_some}
-use Rattle.headers.specs.declared.Unreadable.{Unreadable}
-use Rattle.headers.specs.Cause.{cause_answered}
+use lib.ListN.{length, length-take}
 use Rattle.wire.specs.Reading.{byte_at}
 use Rattle.headers.specs.Packet.{header_length, total_length, causes, cause_of}
-use Rattle.std.proofs.lemmas.Bool.{true≢false}
 use Rattle.wire.proofs.Tested.{tests}
 use Rattle.wire.proofs.Checks.{First, first, passed}
 
@@ -31,8 +26,5 @@ pub cause_is : {r : ℕ} (packet : List ℕ) → First r (causes packet) → r �
 unfolding cause_of
 cause_is packet h = first _ (causes packet) h
 
--- a packet that no cause of refusal 1 makes unreadable has its first 20 bytes
-pub readable_length : (packet : List ℕ) (found : Option Unreadable) → cause_answered found ≡ cause_of packet
-    → is_some found ≡ false → 20 ≤ length packet
-readable_length packet None e f = (readable packet (sym e)).given
-readable_length packet (Some cause) e f = absurd (true≢false f)
+-- and its header as a part of it
+pub ruleset reads = (readable, length-take)

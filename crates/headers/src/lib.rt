@@ -7,8 +7,7 @@ ghost use Rattle.wire.specs.Refusal.{number_answered};
 ghost use Rattle.headers.specs.Packet.{header_length, total_length, cause_of, header_sum_wrong, not_ours, header_checks};
 ghost use Rattle.headers.specs.Cause.{cause_answered};
 
-use sums::{number, sum};
-use wire::reading::{fours, word};
+use sums::sum;
 use wire::refusal::Refusal;
 
 // What makes a header or its total length unreadable, in the order of the rules.
@@ -27,7 +26,7 @@ pub fn header_length(packet: &[u8]) -> usize
     requires { 20 ≤ length packet.now }
     ensures { result ≡ header_length packet.now }
 {
-    fours(packet[0] % 16)
+    4 * usize::from(packet[0] % 16)
 }
 
 // The total length that the header names.
@@ -35,7 +34,7 @@ pub fn total_length(packet: &[u8]) -> usize
     requires { 20 ≤ length packet.now }
     ensures { result ≡ total_length packet.now }
 {
-    word(packet[2], packet[3])
+    usize::from(u16::from_be_bytes([packet[2], packet[3]]))
 }
 
 // The first cause of refusal 1 that holds.
@@ -69,37 +68,34 @@ pub fn cause(packet: &[u8]) -> Option<Unreadable>
 }
 
 // Whether the header's one's complement sum is wrong.
+#[tactic(auto, using(crate::proofs::Readable::reads), unfolding(crate::specs::Packet::header_sum_wrong))]
 fn header_sum_wrong(packet: &[u8]) -> bool
     requires { cause_of packet.now ≡ 0 }
     ensures { result ≡ header_sum_wrong packet.now }
 {
-    let header = header_length(packet);
-    sum(&packet[..header]) != 65535
+    sum(&packet[..header_length(packet)]) != 65535
 }
 
 // Whether the packet is a fragment, not VRRP, or not to 224.0.0.18.
+#[tactic(auto, unfolding(crate::specs::Packet::not_ours))]
 fn not_ours(packet: &[u8]) -> bool
     requires { 20 ≤ length packet.now }
     ensures { result ≡ not_ours packet.now }
 {
-    let fragment = word(packet[6], packet[7]);
-    if fragment / 8192 % 2 != 0 {
-        return true;
-    }
-    if fragment % 8192 != 0 {
-        return true;
-    }
-    if packet[9] != 112 {
-        return true;
-    }
-    number(packet[16], packet[17], packet[18], packet[19]) != 0xE0000012
+    let fragment = u16::from_be_bytes([packet[6], packet[7]]);
+    let destination = u32::from_be_bytes([packet[16], packet[17], packet[18], packet[19]]);
+    fragment / 8192 % 2 != 0
+        || fragment % 8192 != 0
+        || packet[9] != 112
+        || destination != 0xE0000012
 }
 
 // The first of refusals 1 to 4 that holds.
+#[tactic(auto, using(crate::proofs::Readable::readable))]
 pub fn header_refusal(packet: &[u8]) -> Result<(), Refusal>
     ensures { number_answered result ≡ first_refusal (header_checks packet.now) }
 {
-    if cause(packet).is_some() {
+    if let Some(_) = cause(packet) {
         return Err(Refusal::IpHeader);
     }
     if header_sum_wrong(packet) {

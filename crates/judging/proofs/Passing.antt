@@ -3,10 +3,9 @@
 use mathlib.Core.Path.{◌≡◌, refl, sym, ap, ◌∙◌}
 use mathlib.Core.Bool.{Bool, true, false, cond}
 use mathlib.Core.List.{List}
-use Prim.Native.Nat.{ℕ, ◌+◌, ◌-◌, ◌≤◌}
+use Prim.Native.Nat.{ℕ, ◌+◌}
 use native.Mathlib.Omega.{arith}
 use lib.Dec.{eqb}
-use lib.ListN.{length, take, drop}
 use borrow.Author.Tests.{eqb-true, eq-eqb, ne_eqb}
 use Rattle.wire.specs.declared.refusal.Refusal.{Refusal}
 use Rattle.wire.specs.Check.{first_refusal}
@@ -16,13 +15,13 @@ use Rattle.judging.specs.declared.Fields.{Fields}
 use Rattle.std.specs.Prelude.{Result, Ok, Err, is_ok}
 use Rattle.std.proofs.lemmas.Bool.{true≢false, false≢true}
 use Rattle.wire.specs.Reading.{number_at}
-use Rattle.headers.specs.Packet.{header_length, total_length, header_checks, payload}
+use Rattle.headers.specs.Packet.{header_length, header_checks, payload}
 use Rattle.judging.specs.Message.{message_checks}
 use Rattle.judging.specs.Judging.{refusal_of, fields_in, fields_of, judged_of}
 use Rattle.wire.proofs.Tested.{tests}
 use Rattle.wire.proofs.Checks.{passed, refusal_after, refusal_before}
 use Rattle.headers.proofs.Readable.{Readable, readable}
-use Rattle.judging.proofs.Messages.{message_passed}
+use Rattle.judging.proofs.Messages.{message_holds}
 
 -- where the header passes, the message decides
 pub message_decides : (packet : List ℕ) → first_refusal (header_checks packet) ≡ 0
@@ -54,36 +53,21 @@ header_passed packet e =
     let p = passed (header_checks packet) (omega arith) e in
     readable packet (omega tests)
 
--- a packet whose header has passed, and the ends of the part that is cut out for its payload
-pub record Cut (packet : List ℕ) (start end : ℕ) : Type 0 where
-  pub passes : first_refusal (header_checks packet) ≡ 0
-  pub start_is : start ≡ header_length packet
-  pub end_is : end ≡ total_length packet
+-- the header passes, and the message refuses
+pub message_refuses : (packet : List ℕ) (refusal : Refusal) → first_refusal (header_checks packet) ≡ 0
+    → refusal_number refusal ≡ first_refusal (message_checks (payload packet)) → Err (refusal_number refusal) ≡ judged_of packet
+message_refuses packet refusal h e =
+    refuses packet (refusal_number refusal) (e ∙ sym (message_decides packet h)) (nonzero refusal)
 
-module _ (packet : List ℕ) (start end : ℕ) (cut : Cut packet start end) where
-  abbrev part : List ℕ
-  part = take (end - start) (drop start packet)
+-- both pass
+pub both_pass : (packet : List ℕ) (fields : Fields) → first_refusal (header_checks packet) ≡ 0
+    → first_refusal (message_checks (payload packet)) ≡ 0
+    → fields ≡ fields_in (number_at packet 12) (payload packet) (header_length packet + 8) → Ok fields ≡ judged_of packet
+unfolding fields_of
+both_pass packet fields h m f = accepts packet fields (message_decides packet h ∙ m) f
 
-  part_is : part ≡ payload packet
-  part_is = rw (cut.start_is, cut.end_is)
-
-  part_decides : first_refusal (message_checks part) ≡ refusal_of packet
-  part_decides = rw part_is (sym (message_decides packet cut.passes))
-
-  -- the message refuses
-  pub cut_refuses : (refusal : Refusal) → refusal_number refusal ≡ first_refusal (message_checks part)
-      → Err (refusal_number refusal) ≡ judged_of packet
-  cut_refuses refusal e = refuses packet (refusal_number refusal) (e ∙ part_decides) (nonzero refusal)
-
-  -- the message passes: it has its first 8 bytes, and its fields are the packet's
-  pub cut_holds : first_refusal (message_checks part) ≡ 0 → 8 ≤ length part
-  cut_holds e = omega (arith, message_passed part e)
-
-  pub cut_accepts : (fields : Fields) (source : ℕ) → first_refusal (message_checks part) ≡ 0 → source ≡ number_at packet 12
-      → fields ≡ fields_in source part (start + 8) → Ok fields ≡ judged_of packet
-  unfolding fields_of
-  cut_accepts fields source e s f =
-      accepts packet fields (sym part_decides ∙ e) (f ∙ rw (part_is, s, cut.start_is))
+-- the steps of `judge`
+pub ruleset steps = (header_passed, message_holds, header_refuses, message_refuses, both_pass)
 
 -- the number of a packet's answer is its refusal
 number_test : (t : Bool) (packet : List ℕ) (answer : Result Fields Refusal) → eqb (refusal_of packet) 0 ≡ t

@@ -5,7 +5,6 @@ ghost use Rattle.wire.specs.Refusal.{number_answered};
 ghost use Rattle.judging.specs.Message.{message_checks};
 
 use sums::sum;
-use wire::reading::fours;
 use wire::refusal::Refusal;
 
 // The first of refusals 5 to 8 that holds.
@@ -24,7 +23,7 @@ pub fn message_refusal(payload: &[u8]) -> Result<(), Refusal>
     if given < 8 {
         return Err(Refusal::TooShort);
     }
-    let length = 16 + fours(payload[3]);
+    let length = 16 + 4 * usize::from(payload[3]);
     if given < length {
         return Err(Refusal::TooShort);
     }

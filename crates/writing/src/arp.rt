@@ -4,7 +4,6 @@ ghost use Rattle.wire.specs.Refusal.{Tells};
 ghost use Rattle.writing.specs.Arp.{arp_start, arp_end, arp_of};
 ghost use Rattle.writing.specs.Writing.{over, arp_refusal, ArpWritten};
 
-use rooms::bytes::{lowest, second, third, top};
 use rooms::put;
 use wire::refusal::Refusal;
 
@@ -24,10 +23,7 @@ fn arp_tail(vrid: u8, address: u32) -> [u8; 20]
     ensures bytes { result ≡ arp_end vrid address }
     ensures long { 20 ≡ length result }
 {
-    let a = top(address);
-    let b = second(address);
-    let c = third(address);
-    let d = lowest(address);
+    let [a, b, c, d] = address.to_be_bytes();
     [
         0x00, 0x00, 0x5E, 0x00, 0x01, vrid, a, b, c, d, 0, 0, 0, 0, 0, 0, a, b, c, d,
     ]
@@ -38,10 +34,8 @@ pub fn put_arp(vrid: u8, address: u32, room: &mut [u8])
     requires { 42 ≤ length room.old }
     ensures { room.new ≡ over (arp_of vrid address) room.old }
 {
-    let head = arp_head(vrid);
-    let tail = arp_tail(vrid, address);
-    put(room, 0, &head);
-    put(room, 22, &tail)
+    put(room, 0, &arp_head(vrid));
+    put(room, 22, &arp_tail(vrid, address))
 }
 
 // The first of refusals 14 and 22 of writing one ARP frame that holds.
