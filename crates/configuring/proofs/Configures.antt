@@ -1,7 +1,7 @@
 -- The ends of configuring and removing.
 -- Assumes nothing.
 use mathlib.Core.Path.{◌≡◌, sym, ap, ◌∙◌}
-use mathlib.Core.List.{List}
+use mathlib.Core.List.{List, [], ◌∷◌}
 use mathlib.Core.Bool.{Bool, not, ◌||◌}
 use Prim.Native.Nat.{ℕ, ◌/◌, ◌%◌, ◌≤◌}
 use native.Mathlib.Omega.{arith}
@@ -9,23 +9,21 @@ use lib.Dec.{eqb, ltb}
 use lib.ListN.{length}
 use borrow.Author.Tests.{eq-eqb, ne_eqb, not-false, ltb-false}
 use Rattle.writing.specs.Writing.{address_bytes_wrong}
-use Rattle.wire.proofs.Checks.{passed}
+use Rattle.wire.specs.declared.refusal.Refusal.{Refusal}
+use Rattle.wire.specs.Check.{Check}
+use Rattle.wire.specs.Refusal.{refusal_number}
+use Rattle.wire.proofs.Checks.{First, first, passed, refusal_after, refusal_before}
+use Rattle.wire.proofs.Refusals.{nonzero}
 use Rattle.wire.proofs.Tested.{two_passed}
 use Rattle.states.specs.Step.{state_number}
 use Rattle.std.specs.Prelude.{Some, None}
 use Rattle.places.specs.Place.{record_at, set_record, place_of}
 use Rattle.events.specs.Lists.{set_list}
 use Rattle.events.specs.Result.{router_place}
-use Rattle.configuring.specs.Configuring.{is_found, new_router, freed, configure_checks, configure_refusal, Configured}
-use Rattle.configuring.specs.Configuring.{remove_checks, remove_refusal, Removed}
+use Rattle.configuring.specs.Configuring.{is_found, new_router, freed, settings_checks, settings_refusal, configure_checks}
+use Rattle.configuring.specs.Configuring.{configure_refusal, Configured, remove_checks, remove_refusal, Removed}
 
 module _ (words lists : List ℕ) (v priority interval : ℕ) (preempt : Bool) (addresses : List ℕ) where
-  pub configure_refused : (number : ℕ) → number ≡ configure_refusal words v priority interval addresses → ¬ (number ≡ 0)
-      → Configured words lists v priority interval preempt addresses number words lists
-  configure_refused number e n =
-      let t = ne_eqb number 0 n in
-      record { answer_is = e; words_are = rw (← e, t); lists_are = rw (← e, t) }
-
   pub configure_done : (p : ℕ) (after lists_after : List ℕ) → configure_refusal words v priority interval addresses ≡ 0
       → place_of words 0 ≡ Some p → after ≡ set_record words p (new_router v priority interval preempt (length addresses / 4))
       → lists_after ≡ set_list lists p addresses → Configured words lists v priority interval preempt addresses 0 after lists_after
@@ -33,6 +31,23 @@ module _ (words lists : List ℕ) (v priority interval : ℕ) (preempt : Bool) (
       record { answer_is = sym e; words_are = rw (e, f, w); lists_are = rw (e, f, l) }
 
 module _ (words : List ℕ) (v priority interval : ℕ) (addresses : List ℕ) where
+  -- what no table decides goes before what the table does
+  abbrev pub table_checks : List Check
+  table_checks = (18, is_found (place_of words v)) ∷ ((19, not (is_found (place_of words 0))) ∷ [])
+
+  pub settings_refused : (reason : Refusal) → refusal_number reason ≡ settings_refusal v priority interval addresses
+      → refusal_number reason ≡ configure_refusal words v priority interval addresses
+  unfolding configure_refusal settings_refusal
+  settings_refused reason e =
+      e ∙ sym (refusal_before (settings_checks v priority interval addresses) table_checks (λ z. nonzero reason (e ∙ z)))
+
+  pub table_refused : (r : ℕ) → 0 ≡ settings_refusal v priority interval addresses → First r table_checks
+      → r ≡ configure_refusal words v priority interval addresses
+  unfolding configure_refusal settings_refusal
+  table_refused r e f =
+      first r table_checks f
+      ∙ sym (refusal_after (settings_checks v priority interval addresses) table_checks (omega arith) (sym e))
+
   -- where nothing is refused, there is a free place
   pub never_full : configure_refusal words v priority interval addresses ≡ 0 → place_of words 0 ≡ None → ⊥
   unfolding configure_refusal

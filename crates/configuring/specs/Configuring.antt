@@ -1,5 +1,5 @@
 -- Making an empty table, configuring and removing a virtual router (01, 'The table', 'Refusal numbers').
-use Rattle.std.specs.Prelude.{ℕ, ◌/◌, ◌≡◌, List, [], ◌∷◌, Bool, true, false, cond, not, eqb, length, replicate, Some, None}
+use Rattle.std.specs.Prelude.{ℕ, ◌/◌, ◌≡◌, List, [], ◌∷◌, ◌++◌, Bool, true, false, cond, not, eqb, length, replicate, Some, None}
 use Rattle.wire.specs.Check.{Check, first_refusal}
 use Rattle.writing.specs.Writing.{address_bytes_wrong}
 use Rattle.states.specs.declared.record.State.TheVariants.{Initialize}
@@ -46,15 +46,19 @@ new_router vrid priority interval preempt n =
 abbrev pub freed : Router
 freed = no_router
 
--- "14 VRID 0; 15 priority 0; 16 interval 0; 17 address bytes not a multiple of 4, none, or above 64; 18 VRID already in the
--- table; 19 no free place": "Configuring checks 14 to 19 in that order"
+-- "14 VRID 0; 15 priority 0; 16 interval 0; 17 address bytes not a multiple of 4, none, or above 64", which no table decides
+abbrev pub settings_checks : ℕ → ℕ → ℕ → List ℕ → List Check
+settings_checks vrid priority interval addresses =
+    (14, eqb vrid 0) ∷ ((15, eqb priority 0) ∷ ((16, eqb interval 0) ∷ ((17, address_bytes_wrong addresses) ∷ [])))
+
+unfoldable pub settings_refusal : ℕ → ℕ → ℕ → List ℕ → ℕ
+settings_refusal vrid priority interval addresses = first_refusal (settings_checks vrid priority interval addresses)
+
+-- then "18 VRID already in the table; 19 no free place": "Configuring checks 14 to 19 in that order"
 abbrev pub configure_checks : List ℕ → ℕ → ℕ → ℕ → List ℕ → List Check
 configure_checks words vrid priority interval addresses =
-    (14, eqb vrid 0)
-    ∷ ((15, eqb priority 0)
-    ∷ ((16, eqb interval 0)
-    ∷ ((17, address_bytes_wrong addresses)
-    ∷ ((18, is_found (place_of words vrid)) ∷ ((19, not (is_found (place_of words 0))) ∷ [])))))
+    settings_checks vrid priority interval addresses
+    ++ ((18, is_found (place_of words vrid)) ∷ ((19, not (is_found (place_of words 0))) ∷ []))
 
 unfoldable pub configure_refusal : List ℕ → ℕ → ℕ → ℕ → List ℕ → ℕ
 configure_refusal words vrid priority interval addresses =

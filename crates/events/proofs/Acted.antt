@@ -3,9 +3,9 @@
 use mathlib.Core.Path.{◌≡◌, refl, sym, ap, ◌∙◌}
 use mathlib.Core.List.{List}
 use mathlib.Core.Bool.{Bool, true, false}
-use Prim.Native.Nat.{ℕ, ◌+◌, ◌-◌, ◌*◌, ◌≤◌, ◌<◌}
+use Prim.Native.Nat.{ℕ, ◌*◌, ◌≤◌, ◌<◌}
 use native.Mathlib.Omega.{arith}
-use lib.ListN.{length, take, drop}
+use lib.ListN.{length}
 use borrow.Author.Tests.{lt-ltb, le-ltb}
 use Rattle.states.specs.declared.record.Router.{Router}
 use Rattle.states.specs.declared.record.Turn.{Turn}
@@ -19,13 +19,11 @@ use Rattle.states.proofs.Turning.{applied_turn}
 use Rattle.writing.specs.Writing.{over}
 use Rattle.output.specs.Output.{bytes_of, need_of}
 use Rattle.places.specs.Place.{primary_of, record_at, set_event}
-use Rattle.places.proofs.Records.{read_in_range}
 use Rattle.wire.specs.declared.refusal.Refusal.TheVariants.{Room}
 use Rattle.std.specs.Prelude.{Ok, Err}
 use Rattle.events.specs.Lists.{list_at}
 use Rattle.events.specs.Result.{Leaves, acted_of}
 use Rattle.events.specs.Turned.{turned_at}
-use Rattle.events.proofs.Listed.{part_is_list, part_length}
 
 module _ (words lists : List ℕ) (place : ℕ) (outcome : Outcome) (leftover : ℕ) (room : List ℕ) (need : ℕ)
     (is_need : need ≡ need_of outcome.writes (4 * outcome.router.count)) where
@@ -52,29 +50,19 @@ module _ (words lists : List ℕ) (place : ℕ) (outcome : Outcome) (leftover : 
         room_is = rw (← is_need, t, o);
       }
 
--- whatever the memory, a router that was read has at most 16 addresses
-pub loaded_most : (words : List ℕ) (p : ℕ) (r : Router) → r ≡ record_at words p → r.count ≤ 16
-loaded_most words p r e =
-    let c : r.count ≡ (record_at words p).count = ap (λ (x : Router). x.count) e in
-    omega (arith, (read_in_range words p).count)
-
 -- what an event changes leaves the router configured as it was
 pub turned_count : (heard : Bool) (words : List ℕ) (p : ℕ) (t : Turn)
     → (turned_at words p heard t).router.count ≡ (record_at words p).count
 turned_count true words p t = refl
 turned_count false words p t = refl
 
--- the room that an event needs, by the bytes of the list that was cut out
-pub need_is : (words lists : List ℕ) (p : ℕ) (heard : Bool) (t : Turn) (own : Router) (need : ℕ) → p < 255 → length lists ≡ 16320
-    → own ≡ record_at words p
-    → need ≡ need_of t.writes (length (take (64 * p + 4 * own.count - 64 * p) (drop (64 * p) lists)))
-    → need ≡ need_of t.writes (4 * (turned_at words p heard t).router.count)
-need_is words lists p heard t own need below long e n =
+-- the room that an event needs, by the list of the router that was read
+pub need_is : (words : List ℕ) (p : ℕ) (heard : Bool) (t : Turn) (own : Router) (long need : ℕ) → own ≡ record_at words p
+    → long ≡ 4 * own.count → need ≡ need_of t.writes long → need ≡ need_of t.writes (4 * (turned_at words p heard t).router.count)
+need_is words p heard t own long need e l n =
     let count : own.count ≡ (turned_at words p heard t).router.count
     = ap (λ (x : Router). x.count) e ∙ sym (turned_count heard words p t) in
-    n
-    ∙ ap (need_of t.writes) (part_length lists p own.count below (loaded_most words p own e) long)
-    ∙ ap (λ (k : ℕ). need_of t.writes (4 * k)) count
+    n ∙ ap (need_of t.writes) (l ∙ ap (λ (k : ℕ). 4 * k) count)
 
 pub turned_bytes : (heard : Bool) (writes : Writes) (words : List ℕ) (p : ℕ) (t : Turn) (primary : ℕ) (list : List ℕ)
     → bytes_of writes (record_at words p) primary list ≡ bytes_of writes (turned_at words p heard t).router primary list
@@ -87,22 +75,19 @@ turned_bytes false Advertisement words p t primary list = refl
 turned_bytes false Farewell words p t primary list = refl
 turned_bytes false Takeover words p t primary list = refl
 
--- the room with the bytes of the list that was cut out
-pub output_is : (words lists : List ℕ) (p : ℕ) (heard : Bool) (t : Turn) (own : Router) (room : List ℕ) (primary : ℕ)
-    → own ≡ record_at words p → primary ≡ primary_of words
-    → over (bytes_of t.writes own primary (take (64 * p + 4 * own.count - 64 * p) (drop (64 * p) lists))) room
+-- the room with the bytes of that list
+pub output_is : (words lists : List ℕ) (p : ℕ) (heard : Bool) (t : Turn) (own : Router) (room list : List ℕ) (primary : ℕ)
+    → own ≡ record_at words p → primary ≡ primary_of words → list ≡ list_at lists p own.count
+    → over (bytes_of t.writes own primary list) room
     ≡ over (bytes_of t.writes (turned_at words p heard t).router (primary_of words)
     (list_at lists p (turned_at words p heard t).router.count)) room
-output_is words lists p heard t own room primary e f =
+output_is words lists p heard t own room list primary e f l =
     let count : own.count ≡ (turned_at words p heard t).router.count
     = ap (λ (x : Router). x.count) e ∙ sym (turned_count heard words p t) in
-    let part = take (64 * p + 4 * own.count - 64 * p) (drop (64 * p) lists) in
-    let list : part ≡ list_at lists p (turned_at words p heard t).router.count
-    = part_is_list lists p own.count ∙ ap (list_at lists p) count in
     ap (λ (b : List ℕ). over b room)
-    (ap (λ (x : Router). bytes_of t.writes x primary part) e
-    ∙ ap (λ (x : ℕ). bytes_of t.writes (record_at words p) x part) f
-    ∙ ap (bytes_of t.writes (record_at words p) (primary_of words)) list
+    (ap (λ (x : Router). bytes_of t.writes x primary list) e
+    ∙ ap (λ (x : ℕ). bytes_of t.writes (record_at words p) x list) f
+    ∙ ap (bytes_of t.writes (record_at words p) (primary_of words)) (l ∙ ap (list_at lists p) count)
     ∙ turned_bytes heard t.writes words p t (primary_of words) (list_at lists p (turned_at words p heard t).router.count))
 
 -- an outcome that writes nothing is done in any room

@@ -3,9 +3,10 @@
 
 pub mod answer; // how a call that is done ends
 pub mod lists; // address lists in lent bytes
+pub mod heard; // a packet that was judged
 pub mod acting; // an event's outcome at a place
 
-ghost use Rattle.std.specs.Prelude.{◌≡◌, ◌<◌, length, Some};
+ghost use Rattle.std.specs.Prelude.{Some};
 ghost use Rattle.states.specs.Step.{step_of};
 ghost use Rattle.places.specs.Place.{primary_of, record_at};
 ghost use Rattle.events.specs.Result.{Leaves, acted_of};
@@ -14,20 +15,20 @@ ghost use Rattle.events.specs.Events.{happened_of, clocked_at, clocked_of, asked
 use crate::acting::{act, seek};
 use crate::answer::Done;
 use places::interface::primary;
-use places::place::{in_initialize, load, store_timer, timer};
+use places::place::{Place, in_initialize, load, store_timer, timer};
 use states::record::Router;
 use states::step::{Event, turn};
 use wire::refusal::Refusal;
 
 // An event for the router at a place; refuses by 22.
+#[tactic(auto, using(crate::proofs::Acted::turned_step, crate::proofs::Sought::leaves_equal))]
 fn happen_at(
-    words: &mut [u32],
-    lists: &[u8],
-    place: usize,
+    words: &mut [u32; 4096],
+    lists: &[u8; 16320],
+    place: Place,
     event: Event,
     out: &mut [u8],
 ) -> Result<Done, Refusal>
-    requires { (place < 255) × (length words.old ≡ 4096) × (length lists.now ≡ 16320) }
     ensures { Leaves
         (acted_of words.old lists.now place
         (step_of (primary_of words.old) (record_at words.old place) event) 0 out.old)
@@ -38,14 +39,14 @@ fn happen_at(
 }
 
 // Startup or shutdown of a virtual router; refuses by 20 or 22.
+#[tactic(auto, unfolding(crate::specs::Events::happened_of))]
 pub fn happen(
-    words: &mut [u32],
-    lists: &[u8],
+    words: &mut [u32; 4096],
+    lists: &[u8; 16320],
     vrid: u8,
     event: Event,
     out: &mut [u8],
 ) -> Result<Done, Refusal>
-    requires { (length words.old ≡ 4096) × (length lists.now ≡ 16320) }
     ensures { Leaves (happened_of words.old lists.now vrid event out.old)
         result words.new out.new }
 {
@@ -58,13 +59,12 @@ pub fn happen(
 // A clock step for the router at a place: in Initialize nothing happens, else the timer falls, or it fires, or that is
 // refused by 22.
 fn tick_at(
-    words: &mut [u32],
-    lists: &[u8],
-    place: usize,
+    words: &mut [u32; 4096],
+    lists: &[u8; 16320],
+    place: Place,
     ticks: u32,
     out: &mut [u8],
 ) -> Result<Done, Refusal>
-    requires { (place < 255) × (length words.old ≡ 4096) × (length lists.now ≡ 16320) }
     ensures { Leaves
         (clocked_at (Some place) words.old lists.now ticks out.old)
         result words.new out.new }
@@ -88,14 +88,14 @@ fn tick_at(
 }
 
 // A clock step of a virtual router; refuses by 20 or 22.
+#[tactic(auto, unfolding(crate::specs::Events::clocked_of))]
 pub fn tick(
-    words: &mut [u32],
-    lists: &[u8],
+    words: &mut [u32; 4096],
+    lists: &[u8; 16320],
     vrid: u8,
     ticks: u32,
     out: &mut [u8],
 ) -> Result<Done, Refusal>
-    requires { (length words.old ≡ 4096) × (length lists.now ≡ 16320) }
     ensures { Leaves (clocked_of words.old lists.now vrid ticks out.old)
         result words.new out.new }
 {
@@ -106,8 +106,8 @@ pub fn tick(
 }
 
 // What a virtual router is at: its record, or refusal 20.
-pub fn tell(words: &[u32], vrid: u8) -> Result<Router, Refusal>
-    requires { length words.now ≡ 4096 }
+#[tactic(auto, unfolding(crate::specs::Events::asked_of))]
+pub fn tell(words: &[u32; 4096], vrid: u8) -> Result<Router, Refusal>
     ensures { Tells (asked_of words.now vrid) result }
 {
     match seek(words, vrid) {

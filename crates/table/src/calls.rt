@@ -7,7 +7,7 @@ ghost use Rattle.configuring.specs.Configuring.{empty_of, Configured, Removed};
 ghost use Rattle.events.specs.Events.{happened_of, clocked_of, asked_of, Tells, interface_count};
 ghost use Rattle.packets.specs.Packets.{heard_of};
 
-use configuring::{clear, free, set_up};
+use configuring::{Settings, clear, free, set_up};
 use events::answer::Done;
 use events::{happen, tell, tick};
 use packets::hear;
@@ -36,7 +36,13 @@ pub fn configure(
     ensures { Configured words.old lists.old vrid priority interval preempt
         addresses.now (number_answered result) words.new lists.new }
 {
-    set_up(words, lists, vrid, priority, interval, preempt, addresses)
+    let settings = Settings {
+        vrid,
+        priority,
+        interval,
+        preempt,
+    };
+    set_up(words, lists, settings, addresses)
 }
 
 // Removes a virtual router in Initialize, or refuses by 20 or 21.
@@ -108,14 +114,12 @@ pub fn question(words: &[u32; 4096], vrid: u8) -> Result<Router, Refusal>
 }
 
 // How often a refusal of 1 to 9 was given; 0 for any other number.
+#[tactic(auto, unfolding(events::specs::Events::interface_count))]
 pub fn interface_count(words: &[u32; 4096], number: usize) -> u32
     ensures { result ≡ interface_count words.now number }
 {
-    if number == 0 {
-        return 0;
+    match number {
+        1..=9 => refusal_count(words, number),
+        _ => 0,
     }
-    if 9 < number {
-        return 0;
-    }
-    refusal_count(words, number)
 }

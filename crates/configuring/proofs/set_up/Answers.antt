@@ -1,32 +1,36 @@
 -- `configuring::set_up` meets its contract: refused, or at the lowest free place.
 -- Assumes nothing.
-use mathlib.Core.Path.{sym, ◌∙◌}
+use mathlib.Core.Path.{◌≡◌, sym, ◌∙◌}
 use native.Mathlib.Omega.{arith}
-use Rattle.places.proofs.Finding.{found}
-use Rattle.configuring.proofs.Configures.{configure_refused, configure_done, never_full, configure_most}
+use Rattle.std.specs.Prelude.{Some, None}
+use Rattle.configuring.proofs.Configures.{configure_done, never_full, configure_most}
 use Rattle.configuring.proofs.set_up.Goals as goal
+
+pub returns-in_err-place : goal.returns-in_err-place
+returns-in_err-place c =
+    let a = c.args in
+    let s = a.settings in
+    let none : c.find.result ≡ None = grind arith in
+    absurd (never_full a.words.now s.vrid s.priority s.interval a.addresses.now
+    (sym c.in_ok-configure_refusal.ensures) (sym c.find.ensures ∙ none))
 
 pub address_count-requires : goal.address_count-requires
 address_count-requires c =
     let a = c.args in
-    configure_most a.words.now a.vrid a.priority a.interval a.addresses.now (sym c.in_ok-configure_refusal.ensures)
+    let s = a.settings in
+    configure_most a.words.now s.vrid s.priority s.interval a.addresses.now (sym c.in_ok-configure_refusal.ensures)
 
 pub fill-requires : goal.fill-requires
 fill-requires c =
     let a = c.args in
-    let most = configure_most a.words.now a.vrid a.priority a.interval a.addresses.now (sym c.in_ok-configure_refusal.ensures) in
-    let free = found a.words.now 0 _ (sym c.find.ensures ∙ c.in-Some.is) in
-    omega (arith, free.below)
+    let s = a.settings in
+    configure_most a.words.now s.vrid s.priority s.interval a.addresses.now (sym c.in_ok-configure_refusal.ensures)
 
-pub returns-in-Some : goal.returns-in-Some
-returns-in-Some c =
+pub returns : goal.returns
+returns c =
     let a = c.args in
-    configure_done a.words.now a.lists.now a.vrid a.priority a.interval a.preempt a.addresses.now _ _ _
-    (sym c.in_ok-configure_refusal.ensures) (sym c.find.ensures ∙ c.in-Some.is)
+    let s = a.settings in
+    let found : c.find.result ≡ Some c.in_ok-place.place = grind arith in
+    configure_done a.words.now a.lists.now s.vrid s.priority s.interval s.preempt a.addresses.now c.in_ok-place.place _ _
+    (sym c.in_ok-configure_refusal.ensures) (sym c.find.ensures ∙ found)
     (c.fill.ensures.words ∙ rw (c.new_router-fresh.ensures, c.address_count.ensures)) c.fill.ensures.lists
-
-pub returns-in-None : goal.returns-in-None
-returns-in-None c =
-    let a = c.args in
-    absurd (never_full a.words.now a.vrid a.priority a.interval a.addresses.now
-    (sym c.in_ok-configure_refusal.ensures) (sym c.find.ensures ∙ c.in-None.is))

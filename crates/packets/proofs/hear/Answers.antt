@@ -7,10 +7,8 @@ use Rattle.events.proofs.Sought.{leaves_equal}
 use Rattle.packets.proofs.Heard.{heard_unfit, heard_fit}
 use Rattle.packets.proofs.hear.Goals as goal
 
-pub hear_judged-requires : goal.hear_judged-requires
-hear_judged-requires c =
-    let inside = list_inside c.args.packet.now _ c.in-Ok.ensures in
-    omega arith
+pub invariant_of-hear_judged : goal.invariant_of-hear_judged
+invariant_of-hear_judged c = record { listed = list_inside c.args.packet.now _ c.in-Ok.ensures }
 
 pub count_refusal-requires : goal.count_refusal-requires
 count_refusal-requires c =
