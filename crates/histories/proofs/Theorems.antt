@@ -9,6 +9,7 @@ use native.Mathlib.Omega.{arith}
 use lib.Dec.{eqb, ltb}
 use lib.ListN.{length}
 use borrow.Author.Tests.{eqb-true, eqb-false}
+use Rattle.std.proofs.lemmas.Bool.{cond_both}
 use Rattle.judging.specs.declared.Fields.{Fields}
 use Rattle.judging.specs.Judging.{Judged, judged_of}
 use Rattle.wire.specs.declared.refusal.Refusal.{Refusal}
@@ -100,19 +101,14 @@ pub one_remove_answer : OneRemoveAnswer
 one_remove_answer words vrid a b after other x y =
     answer_told a b (x.answer_is ∙ sym y.answer_is) (rw x.answer_is (remove_at_most words vrid))
 
--- of two results that leave a place as it was, whichever is taken does
-either_elsewhere : (t : Bool) (a b : Result) (words : List ℕ) (q : ℕ) → record_at a.words q ≡ record_at words q
-    → record_at b.words q ≡ record_at words q → record_at (cond t a b).words q ≡ record_at words q
-either_elsewhere true a b words q x y = x
-either_elsewhere false a b words q x y = y
-
 -- what acts at a place leaves every other place as it was
 acted_elsewhere : (words lists : List ℕ) (p : ℕ) (o : Outcome) (leftover : ℕ) (room : List ℕ) (q : ℕ) → (q ≡ p → ⊥)
     → record_at (acted_of words lists p o leftover room).words q ≡ record_at words q
 unfolding acted_of
 acted_elsewhere words lists p o leftover room q n =
-    either_elsewhere (ltb (length room) (need_of o.writes (4 * o.router.count))) _ _ words q refl
-    (beside_record p words _ (event_beside words p o.router) q n)
+    cond_both (ltb (length room) (need_of o.writes (4 * o.router.count))) _ _
+    (λ (x : Result). record_at x.words q ≡ record_at words q) (λ t. refl)
+    (λ t. beside_record p words _ (event_beside words p o.router) q n)
 
 happened_elsewhere : (f : Found) (words lists : List ℕ) (q : ℕ) (e : Event) (room : List ℕ) → (f ≡ Some q → ⊥)
     → record_at (happened_at f words lists e room).words q ≡ record_at words q
