@@ -8,6 +8,7 @@ use native.Mathlib.Omega.{arith}
 use lib.Dec.{eqb, ltb}
 use lib.ListN.{length, get_or}
 use borrow.Author.Tests.{eqb-true, eqb-false, ltb-false, not-false}
+use Rattle.std.proofs.lemmas.Bool.{cond_both}
 use Rattle.judging.specs.declared.Fields.{Fields}
 use Rattle.judging.specs.Judging.{Judged, judged_of}
 use Rattle.std.specs.Prelude.{Ok, Err, Some, None}
@@ -50,18 +51,14 @@ in_use words held v p e =
     let used : ¬ (get_or words (base_of p) 0 ≡ 0) = λ z. w.2 (sym w.1 ∙ z) in
     (w.0, used, ((held.sound p w.0).configured used).0)
 
-either_held : (t : Bool) (a b : Result) → Held a.words → Held b.words → Held (cond t a b).words
-either_held true a b h k = h
-either_held false a b h k = k
-
 acted_held : (words lists : List ℕ) → Held words → (p : ℕ) → p < 255 → ¬ (get_or words (base_of p) 0 ≡ 0)
     → (o : Outcome) (leftover : ℕ)
     (room : List ℕ) → Unchanged (record_at words p) o.router → Timed o.router
     → Held (acted_of words lists p o leftover room).words
 unfolding acted_of
 acted_held words lists held p below used o leftover room same timed =
-    either_held (ltb (length room) (need_of o.writes (4 * o.router.count))) _ _ held
-    (changed_held words _ held p below used o.router (event_changed words p o.router below held.long same) timed)
+    cond_both (ltb (length room) (need_of o.writes (4 * o.router.count))) _ _ (λ (x : Result). Held x.words) (λ t. held)
+    (λ t. changed_held words _ held p below used o.router (event_changed words p o.router below held.long same) timed)
 
 priority_most : (words : List ℕ) (p : ℕ) → (record_at words p).priority ≤ 255
 priority_most words p = omega (arith, (read_in_range words p).priority)
