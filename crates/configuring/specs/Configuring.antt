@@ -1,14 +1,12 @@
 -- Making an empty table, configuring and removing a virtual router (01, 'The table', 'Refusal numbers').
-use Rattle.std.specs.Prelude.{ℕ, ◌/◌, ◌≡◌, List, [], ◌∷◌, Bool, true, false, cond, not, eqb, length, replicate}
+use Rattle.std.specs.Prelude.{ℕ, ◌/◌, ◌≡◌, List, [], ◌∷◌, ◌++◌, Bool, true, false, cond, not, eqb, length, replicate, Some, None}
 use Rattle.wire.specs.Check.{Check, first_refusal}
 use Rattle.writing.specs.Writing.{address_bytes_wrong}
 use Rattle.states.specs.declared.record.State.TheVariants.{Initialize}
 use Rattle.states.specs.declared.record.Counts.{Counts}
 use Rattle.states.specs.declared.record.Router.{Router}
 use Rattle.states.specs.Step.{state_number}
-use Rattle.places.specs.declared.place.Found.{Found}
-use Rattle.places.specs.declared.place.Found.TheVariants.{At, Nothing}
-use Rattle.places.specs.Place.{record_at, set_record, place_of}
+use Rattle.places.specs.Place.{Found, record_at, set_record, place_of}
 use Rattle.events.specs.Lists.{set_list}
 use Rattle.events.specs.Result.{router_place}
 use Rattle.events.specs.Events.{no_router}
@@ -19,12 +17,12 @@ empty_of primary = primary ∷ replicate 4095 0
 
 -- whether a place was found, and which; 0 where none was
 abbrev pub is_found : Found → Bool
-is_found (At place) = true
-is_found Nothing = false
+is_found (Some place) = true
+is_found None = false
 
 abbrev pub place_in : Found → ℕ
-place_in (At place) = place
-place_in Nothing = 0
+place_in (Some place) = place
+place_in None = 0
 
 -- "with counts at 0"
 abbrev pub no_counts : Counts
@@ -48,15 +46,19 @@ new_router vrid priority interval preempt n =
 abbrev pub freed : Router
 freed = no_router
 
--- "14 VRID 0; 15 priority 0; 16 interval 0; 17 address bytes not a multiple of 4, none, or above 64; 18 VRID already in the
--- table; 19 no free place": "Configuring checks 14 to 19 in that order"
+-- "14 VRID 0; 15 priority 0; 16 interval 0; 17 address bytes not a multiple of 4, none, or above 64", which no table decides
+abbrev pub settings_checks : ℕ → ℕ → ℕ → List ℕ → List Check
+settings_checks vrid priority interval addresses =
+    (14, eqb vrid 0) ∷ ((15, eqb priority 0) ∷ ((16, eqb interval 0) ∷ ((17, address_bytes_wrong addresses) ∷ [])))
+
+unfoldable pub settings_refusal : ℕ → ℕ → ℕ → List ℕ → ℕ
+settings_refusal vrid priority interval addresses = first_refusal (settings_checks vrid priority interval addresses)
+
+-- then "18 VRID already in the table; 19 no free place": "Configuring checks 14 to 19 in that order"
 abbrev pub configure_checks : List ℕ → ℕ → ℕ → ℕ → List ℕ → List Check
 configure_checks words vrid priority interval addresses =
-    (14, eqb vrid 0)
-    ∷ ((15, eqb priority 0)
-    ∷ ((16, eqb interval 0)
-    ∷ ((17, address_bytes_wrong addresses)
-    ∷ ((18, is_found (place_of words vrid)) ∷ ((19, not (is_found (place_of words 0))) ∷ [])))))
+    settings_checks vrid priority interval addresses
+    ++ ((18, is_found (place_of words vrid)) ∷ ((19, not (is_found (place_of words 0))) ∷ []))
 
 unfoldable pub configure_refusal : List ℕ → ℕ → ℕ → ℕ → List ℕ → ℕ
 configure_refusal words vrid priority interval addresses =

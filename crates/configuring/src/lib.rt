@@ -2,66 +2,81 @@
 #![tactic(auto)]
 
 ghost use Rattle.std.specs.Prelude.{◌≡◌, ◌/◌, ◌≤◌, ◌<◌, length};
-ghost use Rattle.states.specs.Step.{state_number};
-ghost use Rattle.places.specs.Place.{record_at, set_record, place_of};
+ghost use Rattle.wire.specs.Refusal.{number_answered};
+ghost use Rattle.places.specs.Place.{set_record, place_of};
 ghost use Rattle.events.specs.Lists.{set_list};
-ghost use Rattle.configuring.specs.Configuring.{empty_of, is_found, new_router, configure_refusal, Configured, Removed};
+ghost use Rattle.configuring.specs.Configuring.{empty_of, is_found, new_router, settings_refusal, configure_refusal, Configured, Removed};
 
 use events::acting::seek;
 use events::lists::put_list;
-use places::place::{Found, find, load, store};
+use places::place::{Place, find, load, store};
 use states::record::{Counts, Router, State};
-use states::step::state_number;
+use wire::refusal::Refusal;
 use writing::addresses::address_bytes_wrong;
 
 // Every word 0 but the primary address.
-pub fn clear(words: &mut [u32], primary: u32)
-    requires { length words.old ≡ 4096 }
+pub fn clear(words: &mut [u32; 4096], primary: u32)
     ensures { words.new ≡ empty_of primary }
 {
-    let mut k = 0;
-    while k < words.len() {
-        words[k] = 0;
-        k += 1;
-    }
+    words.fill(0);
     words[0] = primary;
 }
 
 // Whether some place has this first word: a virtual router's number, or 0 for a free place.
-fn is_taken(words: &[u32], vrid: u8) -> bool
-    requires { length words.now ≡ 4096 }
+fn is_taken(words: &[u32; 4096], vrid: u8) -> bool
     ensures { result ≡ is_found (place_of words.now vrid) }
 {
-    match find(words, vrid) {
-        Found::At(_) => true,
-        Found::Nothing => false,
-    }
+    find(words, vrid).is_some()
 }
 
-// The first of refusals 14 to 19, or 0.
-fn configure_refusal(words: &[u32], vrid: u8, priority: u8, interval: u8, addresses: &[u8]) -> u32
-    requires { length words.now ≡ 4096 }
-    ensures { result ≡ configure_refusal words.now vrid priority interval addresses.now }
+// What a virtual router is configured with, beside its addresses.
+#[derive(Clone, Copy)]
+pub struct Settings {
+    pub vrid: u8,
+    pub priority: u8,
+    // in seconds
+    pub interval: u8,
+    pub preempt: bool,
+}
+
+// The first of refusals 14 to 17, if any: those that no table decides.
+#[tactic(auto, unfolding(crate::specs::Configuring::settings_refusal))]
+pub fn settings_refusal(settings: Settings, addresses: &[u8]) -> Result<(), Refusal>
+    ensures { number_answered result ≡ settings_refusal settings.vrid settings.priority settings.interval
+        addresses.now }
 {
-    if vrid == 0 {
-        return 14;
+    if settings.vrid == 0 {
+        return Err(Refusal::VridZero);
     }
-    if priority == 0 {
-        return 15;
+    if settings.priority == 0 {
+        return Err(Refusal::PriorityZero);
     }
-    if interval == 0 {
-        return 16;
+    if settings.interval == 0 {
+        return Err(Refusal::IntervalZero);
     }
     if address_bytes_wrong(addresses) {
-        return 17;
+        return Err(Refusal::AddressBytes);
     }
-    if is_taken(words, vrid) {
-        return 18;
+    Ok(())
+}
+
+// The first of refusals 14 to 19, if any.
+fn configure_refusal(
+    words: &[u32; 4096],
+    settings: Settings,
+    addresses: &[u8],
+) -> Result<(), Refusal>
+    ensures { number_answered result ≡ configure_refusal words.now settings.vrid settings.priority
+        settings.interval addresses.now }
+{
+    settings_refusal(settings, addresses)?;
+    if is_taken(words, settings.vrid) {
+        return Err(Refusal::VridTaken);
     }
     if !is_taken(words, 0) {
-        return 19;
+        return Err(Refusal::NoFreePlace);
     }
-    0
+    Ok(())
 }
 
 // A router that was configured just now.
@@ -88,9 +103,14 @@ pub fn new_router(vrid: u8, priority: u8, interval: u8, preempt: bool, count: u8
 }
 
 // Puts a new router and its address bytes at a place.
-fn fill(words: &mut [u32], lists: &mut [u8], place: usize, fresh: Router, addresses: &[u8])
-    requires place_bound { (place < 255) × (length words.old ≡ 4096) × (length lists.old ≡ 16320) }
-    requires addresses_len_bound { length addresses.now ≤ 64 }
+fn fill(
+    words: &mut [u32; 4096],
+    lists: &mut [u8; 16320],
+    place: Place,
+    fresh: Router,
+    addresses: &[u8],
+)
+    requires { length addresses.now ≤ 64 }
     ensures words { words.new ≡ set_record words.old place fresh }
     ensures lists { lists.new ≡ set_list lists.old place addresses.now }
 {
@@ -108,55 +128,35 @@ pub fn address_count(addresses: &[u8]) -> u8
 
 // Configures a virtual router at the lowest free place, or refuses by 14 to 19.
 pub fn set_up(
-    words: &mut [u32],
-    lists: &mut [u8],
-    vrid: u8,
-    priority: u8,
-    interval: u8,
-    preempt: bool,
+    words: &mut [u32; 4096],
+    lists: &mut [u8; 16320],
+    settings: Settings,
     addresses: &[u8],
-) -> u32
-    requires { (length words.old ≡ 4096) × (length lists.old ≡ 16320) }
-    ensures { Configured words.old lists.old vrid priority interval preempt
-        addresses.now result words.new lists.new }
+) -> Result<(), Refusal>
+    ensures { Configured words.old lists.old settings.vrid settings.priority settings.interval settings.preempt
+        addresses.now (number_answered result) words.new lists.new }
 {
-    let refusal = configure_refusal(words, vrid, priority, interval, addresses);
-    if refusal != 0 {
-        return refusal;
-    }
-    match find(words, 0) {
-        Found::At(place) => {
-            let fresh = new_router(vrid, priority, interval, preempt, address_count(addresses));
-            fill(words, lists, place, fresh, addresses);
-            0
-        }
-        Found::Nothing => 19,
-    }
-}
-
-// The number of the state of the router at a place.
-fn state_at(words: &[u32], place: usize) -> u32
-    requires { (place < 255) × (length words.now ≡ 4096) }
-    ensures { result ≡ state_number (record_at words.now place).state }
-{
-    let found = load(words, place);
-    let state = found.state;
-    state_number(state)
+    configure_refusal(words, settings, addresses)?;
+    let place = find(words, 0).ok_or(Refusal::NoFreePlace)?;
+    let Settings {
+        vrid,
+        priority,
+        interval,
+        preempt,
+    } = settings;
+    let fresh = new_router(vrid, priority, interval, preempt, address_count(addresses));
+    fill(words, lists, place, fresh, addresses);
+    Ok(())
 }
 
 // Frees the place of a virtual router in Initialize, or refuses by 20 or 21.
-pub fn free(words: &mut [u32], vrid: u8) -> u32
-    requires { length words.old ≡ 4096 }
-    ensures { Removed words.old vrid result words.new }
+pub fn free(words: &mut [u32; 4096], vrid: u8) -> Result<(), Refusal>
+    ensures { Removed words.old vrid (number_answered result) words.new }
 {
-    match seek(words, vrid) {
-        Found::At(place) => {
-            if state_at(words, place) != 0 {
-                return 21;
-            }
-            store(words, place, new_router(0, 0, 0, false, 0));
-            0
-        }
-        Found::Nothing => 20,
+    let place = seek(words, vrid).ok_or(Refusal::NoRouter)?;
+    if load(words, place).state != State::Initialize {
+        return Err(Refusal::NotInInitialize);
     }
+    store(words, place, new_router(0, 0, 0, false, 0));
+    Ok(())
 }

@@ -20,21 +20,20 @@ use Rattle.writing.specs.Writing.{over}
 use Rattle.output.specs.Output.{bytes_of, need_of}
 use Rattle.places.specs.Place.{primary_of, record_at, set_event}
 use Rattle.places.proofs.Records.{read_in_range}
-use Rattle.events.specs.declared.answer.Answered.TheVariants.{Done, Short}
+use Rattle.wire.specs.declared.refusal.Refusal.TheVariants.{Room}
+use Rattle.std.specs.Prelude.{Ok, Err}
 use Rattle.events.specs.Lists.{list_at}
 use Rattle.events.specs.Result.{Leaves, acted_of}
 use Rattle.events.specs.Turned.{turned_at}
-use Rattle.events.proofs.Listed.{part_is_list, part_length}
 
 module _ (words lists : List ℕ) (place : ℕ) (outcome : Outcome) (leftover : ℕ) (room : List ℕ) (need : ℕ)
     (is_need : need ≡ need_of outcome.writes (4 * outcome.router.count)) where
-  pub acted_short : length room < need → Leaves (acted_of words lists place outcome leftover room) (Short need) words room
+  pub acted_short : length room < need → Leaves (acted_of words lists place outcome leftover room) (Err (Room need)) words room
   unfolding acted_of
   acted_short h =
       let t = lt-ltb (length room) need h in
       record {
         answer_is = rw (← is_need, t);
-        proper = tt;
         words_are = rw (← is_need, t);
         room_is = rw (← is_need, t);
       }
@@ -42,13 +41,12 @@ module _ (words lists : List ℕ) (place : ℕ) (outcome : Outcome) (leftover : 
   pub acted_done : (after room_after : List ℕ) → need ≤ length room → after ≡ set_event words place outcome.router
       → room_after
       ≡ over (bytes_of outcome.writes outcome.router (primary_of words) (list_at lists place outcome.router.count)) room
-      → Leaves (acted_of words lists place outcome leftover room) (Done need leftover) after room_after
+      → Leaves (acted_of words lists place outcome leftover room) (Ok (record { written = need; leftover = leftover })) after room_after
   unfolding acted_of
   acted_done after room_after h w o =
       let t = le-ltb (length room) need h in
       record {
         answer_is = rw (← is_need, t);
-        proper = tt;
         words_are = rw (← is_need, t, w);
         room_is = rw (← is_need, t, o);
       }
@@ -65,17 +63,13 @@ pub turned_count : (heard : Bool) (words : List ℕ) (p : ℕ) (t : Turn)
 turned_count true words p t = refl
 turned_count false words p t = refl
 
--- the room that an event needs, by the bytes of the list that was cut out
-pub need_is : (words lists : List ℕ) (p : ℕ) (heard : Bool) (t : Turn) (own : Router) (need : ℕ) → p < 255 → length lists ≡ 16320
-    → own ≡ record_at words p
-    → need ≡ need_of t.writes (length (take (64 * p + 4 * own.count - 64 * p) (drop (64 * p) lists)))
-    → need ≡ need_of t.writes (4 * (turned_at words p heard t).router.count)
-need_is words lists p heard t own need below long e n =
+-- the room that an event needs, by the list of the router that was read
+pub need_is : (words : List ℕ) (p : ℕ) (heard : Bool) (t : Turn) (own : Router) (long need : ℕ) → own ≡ record_at words p
+    → long ≡ 4 * own.count → need ≡ need_of t.writes long → need ≡ need_of t.writes (4 * (turned_at words p heard t).router.count)
+need_is words p heard t own long need e l n =
     let count : own.count ≡ (turned_at words p heard t).router.count
     = ap (λ (x : Router). x.count) e ∙ sym (turned_count heard words p t) in
-    n
-    ∙ ap (need_of t.writes) (part_length lists p own.count below (loaded_most words p own e) long)
-    ∙ ap (λ (k : ℕ). need_of t.writes (4 * k)) count
+    n ∙ ap (need_of t.writes) (l ∙ ap (λ (k : ℕ). 4 * k) count)
 
 pub turned_bytes : (heard : Bool) (writes : Writes) (words : List ℕ) (p : ℕ) (t : Turn) (primary : ℕ) (list : List ℕ)
     → bytes_of writes (record_at words p) primary list ≡ bytes_of writes (turned_at words p heard t).router primary list
@@ -88,31 +82,28 @@ turned_bytes false Advertisement words p t primary list = refl
 turned_bytes false Farewell words p t primary list = refl
 turned_bytes false Takeover words p t primary list = refl
 
--- the room with the bytes of the list that was cut out
-pub output_is : (words lists : List ℕ) (p : ℕ) (heard : Bool) (t : Turn) (own : Router) (room : List ℕ) (primary : ℕ)
-    → own ≡ record_at words p → primary ≡ primary_of words
-    → over (bytes_of t.writes own primary (take (64 * p + 4 * own.count - 64 * p) (drop (64 * p) lists))) room
+-- the room with the bytes of that list
+pub output_is : (words lists : List ℕ) (p : ℕ) (heard : Bool) (t : Turn) (own : Router) (room list : List ℕ) (primary : ℕ)
+    → own ≡ record_at words p → primary ≡ primary_of words → list ≡ list_at lists p own.count
+    → over (bytes_of t.writes own primary list) room
     ≡ over (bytes_of t.writes (turned_at words p heard t).router (primary_of words)
     (list_at lists p (turned_at words p heard t).router.count)) room
-output_is words lists p heard t own room primary e f =
+output_is words lists p heard t own room list primary e f l =
     let count : own.count ≡ (turned_at words p heard t).router.count
     = ap (λ (x : Router). x.count) e ∙ sym (turned_count heard words p t) in
-    let part = take (64 * p + 4 * own.count - 64 * p) (drop (64 * p) lists) in
-    let list : part ≡ list_at lists p (turned_at words p heard t).router.count
-    = part_is_list lists p own.count ∙ ap (list_at lists p) count in
     ap (λ (b : List ℕ). over b room)
-    (ap (λ (x : Router). bytes_of t.writes x primary part) e
-    ∙ ap (λ (x : ℕ). bytes_of t.writes (record_at words p) x part) f
-    ∙ ap (bytes_of t.writes (record_at words p) (primary_of words)) list
+    (ap (λ (x : Router). bytes_of t.writes x primary list) e
+    ∙ ap (λ (x : ℕ). bytes_of t.writes (record_at words p) x list) f
+    ∙ ap (bytes_of t.writes (record_at words p) (primary_of words)) (l ∙ ap (list_at lists p) count)
     ∙ turned_bytes heard t.writes words p t (primary_of words) (list_at lists p (turned_at words p heard t).router.count))
 
 -- an outcome that writes nothing is done in any room
 pub acted_silent : (words lists : List ℕ) (p : ℕ) (o : Outcome) (leftover : ℕ) (room after : List ℕ) → o.writes ≡ Nothing
-    → after ≡ set_event words p o.router → Leaves (acted_of words lists p o leftover room) (Done 0 leftover) after room
+    → after ≡ set_event words p o.router → Leaves (acted_of words lists p o leftover room) (Ok (record { written = 0; leftover = leftover })) after room
 unfolding acted_of
 acted_silent words lists p o leftover room after s w =
     let t = le-ltb (length room) 0 (omega arith) in
-    record { answer_is = rw (s, t); proper = tt; words_are = rw (s, t, w); room_is = rw (s, t) }
+    record { answer_is = rw (s, t); words_are = rw (s, t, w); room_is = rw (s, t) }
 
 -- what the code does with an event is what the table of states has it do
 pub turned_step : (words lists : List ℕ) (p : ℕ) (e : Event) (leftover : ℕ) (room : List ℕ) (t : Turn)

@@ -9,29 +9,29 @@ use lib.Dec.{eqb}
 use lib.ListN.{get_or}
 use borrow.Author.Tests.{eqb-false}
 use Rattle.states.specs.declared.step.Event.{Event}
-use Rattle.places.specs.declared.place.Found.TheVariants.{At, Nothing}
+use Rattle.std.specs.Prelude.{Err, Some, None}
 use Rattle.places.specs.Place.{base_of, place_of}
 use Rattle.places.proofs.Finding.{found}
-use Rattle.events.specs.declared.answer.Answered.{Answered}
-use Rattle.events.specs.declared.answer.Answered.TheVariants.{Refused}
-use Rattle.events.specs.Result.{Result, Leaves, refuses, router_place}
+use Rattle.wire.specs.declared.refusal.Refusal.{Refusal}
+use Rattle.wire.specs.Refusal.{refusal_number, room_needed}
+use Rattle.events.specs.Result.{Answered, Result, Leaves, refuses, router_place}
 use Rattle.events.specs.Events.{happened_at, happened_of, clocked_at, clocked_of}
 
-sought_test : (t : Bool) (words : List ℕ) (v p : ℕ) → cond t Nothing (place_of words v) ≡ At p → place_of words v ≡ At p
+sought_test : (t : Bool) (words : List ℕ) (v p : ℕ) → cond t None (place_of words v) ≡ Some p → place_of words v ≡ Some p
 sought_test true words v p e = absurd (let z : ◌≡◌ {A = ℕ} 0 1 = cc in omega arith)
 sought_test false words v p e = e
 
 -- a virtual router's place is one of the 255
-pub sought_below : (words : List ℕ) (v p : ℕ) → router_place words v ≡ At p → p < 255
+pub sought_below : (words : List ℕ) (v p : ℕ) → router_place words v ≡ Some p → p < 255
 unfolding router_place
 sought_below words v p e = (found words v p (sought_test (eqb v 0) words v p e)).below
 
 -- its first word is its number, which is not 0
-sought_zero_test : (t : Bool) (words : List ℕ) (v p : ℕ) → eqb v 0 ≡ t → cond t Nothing (place_of words v) ≡ At p → v ≡ 0 → ⊥
+sought_zero_test : (t : Bool) (words : List ℕ) (v p : ℕ) → eqb v 0 ≡ t → cond t None (place_of words v) ≡ Some p → v ≡ 0 → ⊥
 sought_zero_test true words v p s e z = let y : ◌≡◌ {A = ℕ} 0 1 = cc in omega arith
 sought_zero_test false words v p s e z = eqb-false v 0 s z
 
-pub sought_word : (words : List ℕ) (v p : ℕ) → router_place words v ≡ At p → (p < 255) × (get_or words (base_of p) 0 ≡ v) × (v ≡ 0 → ⊥)
+pub sought_word : (words : List ℕ) (v p : ℕ) → router_place words v ≡ Some p → (p < 255) × (get_or words (base_of p) 0 ≡ v) × (v ≡ 0 → ⊥)
 unfolding router_place
 sought_word words v p e =
     let l = found words v p (sought_test (eqb v 0) words v p e) in
@@ -42,27 +42,26 @@ pub leaves_equal : (a b : Result) (answer : Answered) (words room : List ℕ) �
 leaves_equal a b answer words room e h = subst (λ (x : Result). Leaves x answer words room) e h
 
 -- a refusal that leaves everything as it was
-pub leaves_refused : (number : ℕ) (words room : List ℕ) → ¬ (number ≡ 0) → ¬ (number ≡ 22)
-    → Leaves (refuses number words room) (Refused number) words room
-leaves_refused number words room some other =
-    record { answer_is = refl; proper = (some, other); words_are = refl; room_is = refl }
+pub leaves_refused : (reason : Refusal) (words room : List ℕ) → room_needed reason ≡ 0
+    → Leaves (refuses (refusal_number reason) words room) (Err reason) words room
+leaves_refused reason words room e = record { answer_is = rw e; words_are = refl; room_is = refl }
 
-pub happened : (words lists : List ℕ) (v p : ℕ) (e : Event) (room : List ℕ) → router_place words v ≡ At p
-    → happened_at (At p) words lists e room ≡ happened_of words lists v e room
+pub happened : (words lists : List ℕ) (v p : ℕ) (e : Event) (room : List ℕ) → router_place words v ≡ Some p
+    → happened_at (Some p) words lists e room ≡ happened_of words lists v e room
 unfolding happened_of
 happened words lists v p e room s = rw s
 
-pub not_happened : (words lists : List ℕ) (v : ℕ) (e : Event) (room : List ℕ) → router_place words v ≡ Nothing
+pub not_happened : (words lists : List ℕ) (v : ℕ) (e : Event) (room : List ℕ) → router_place words v ≡ None
     → refuses 20 words room ≡ happened_of words lists v e room
 unfolding happened_of
 not_happened words lists v e room s = rw s
 
-pub clocked : (words lists : List ℕ) (v p d : ℕ) (room : List ℕ) → router_place words v ≡ At p
-    → clocked_at (At p) words lists d room ≡ clocked_of words lists v d room
+pub clocked : (words lists : List ℕ) (v p d : ℕ) (room : List ℕ) → router_place words v ≡ Some p
+    → clocked_at (Some p) words lists d room ≡ clocked_of words lists v d room
 unfolding clocked_of
 clocked words lists v p d room s = rw s
 
-pub not_clocked : (words lists : List ℕ) (v d : ℕ) (room : List ℕ) → router_place words v ≡ Nothing
+pub not_clocked : (words lists : List ℕ) (v d : ℕ) (room : List ℕ) → router_place words v ≡ None
     → refuses 20 words room ≡ clocked_of words lists v d room
 unfolding clocked_of
 not_clocked words lists v d room s = rw s

@@ -1,5 +1,7 @@
 -- Startup, shutdown, clock and questions on the router of a VRID (01, 'Time', 'State by event').
-use Rattle.std.specs.Prelude.{ℕ, ◌≡◌, List, false, cond, ◌||◌, eqb, ltb}
+use Rattle.std.specs.Prelude.{Result as Ending, Ok, Err, ℕ, ◌≡◌, List, false, cond, ◌||◌, eqb, ltb, Some, None}
+use Rattle.wire.specs.declared.refusal.Refusal.{Refusal}
+use Rattle.wire.specs.Refusal.{refusal_number, room_needed}
 use Rattle.states.specs.declared.record.State.{State}
 use Rattle.states.specs.declared.record.State.TheVariants.{Initialize}
 use Rattle.states.specs.declared.record.Counts.{Counts}
@@ -7,17 +9,13 @@ use Rattle.states.specs.declared.record.Router.{Router}
 use Rattle.states.specs.declared.step.Event.{Event}
 use Rattle.states.specs.Step.{step_of}
 use Rattle.router.specs.Clock.{ticked_of}
-use Rattle.places.specs.declared.place.Found.{Found}
-use Rattle.places.specs.declared.place.Found.TheVariants.{At, Nothing}
-use Rattle.places.specs.Place.{primary_of, record_at, refusal_count}
-use Rattle.events.specs.declared.answer.Told.{Told}
-use Rattle.events.specs.declared.answer.Told.TheVariants.{Of, Refused}
+use Rattle.places.specs.Place.{Found, primary_of, record_at, refusal_count}
 use Rattle.events.specs.Result.{Result, refuses, router_place, acted_of}
 
 -- an event at the place that was found: "20 VRID not in the table", then the event
 abbrev pub happened_at : Found → List ℕ → List ℕ → Event → List ℕ → Result
-happened_at Nothing words lists event room = refuses 20 words room
-happened_at (At place) words lists event room =
+happened_at None words lists event room = refuses 20 words room
+happened_at (Some place) words lists event room =
     acted_of words lists place (step_of (primary_of words) (record_at words place) event) 0 room
 
 -- startup or shutdown of a virtual router
@@ -26,8 +24,8 @@ happened_of words lists vrid event room = happened_at (router_place words vrid) 
 
 -- a clock step at the place that was found
 abbrev pub clocked_at : Found → List ℕ → List ℕ → ℕ → List ℕ → Result
-clocked_at Nothing words lists ticks room = refuses 20 words room
-clocked_at (At place) words lists ticks room =
+clocked_at None words lists ticks room = refuses 20 words room
+clocked_at (Some place) words lists ticks room =
     acted_of words lists place (ticked_of (primary_of words) (record_at words place) ticks).outcome
     (ticked_of (primary_of words) (record_at words place) ticks).leftover
     room
@@ -63,20 +61,24 @@ no_router =
       counts = record { accepted = 0; became = 0; owner = 0; authentication = 0; list = 0; interval = 0 };
     }
 
--- the status that each case of the enum is
-abbrev pub status_of : Told → Status
-status_of (Of r) = status_as 0 r
-status_of (Refused number) = status_as number no_router
+-- what a question is told in the code: a router, or why not
+abbrev pub Told : Type 0
+Told = Ending Router Refusal
 
--- a status is one value of the enum: `Refused` has not the 0 of `Of`
+-- the status that each case of it is
+abbrev pub status_of : Told → Status
+status_of (Ok r) = status_as 0 r
+status_of (Err reason) = status_as (refusal_number reason) no_router
+
+-- a status is one value of it: a question is refused for no want of room
 abbrev pub ProperTold : Told → Type 0
-ProperTold (Of r) = Unit
-ProperTold (Refused number) = ¬ (number ≡ 0)
+ProperTold (Ok r) = Unit
+ProperTold (Err reason) = room_needed reason ≡ 0
 
 -- at the place that was found; 20 where it is not in the table
 abbrev pub asked_at : Found → List ℕ → Status
-asked_at Nothing words = status_as 20 no_router
-asked_at (At place) words = status_as 0 (record_at words place)
+asked_at None words = status_as 20 no_router
+asked_at (Some place) words = status_as 0 (record_at words place)
 
 -- a question about a virtual router
 unfoldable pub asked_of : List ℕ → ℕ → Status

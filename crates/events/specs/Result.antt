@@ -1,13 +1,12 @@
 -- What a call leaves: its answer, the words of the table and the room (01, 'What a promise leaves open: nothing').
-use Rattle.std.specs.Prelude.{ℕ, ◌*◌, ◌≡◌, List, cond, eqb, ltb, length}
+use Rattle.std.specs.Prelude.{Result as Ending, Ok, Err, ℕ, ◌*◌, ◌≡◌, List, cond, eqb, ltb, length, None}
+use Rattle.wire.specs.declared.refusal.Refusal.{Refusal}
+use Rattle.wire.specs.Refusal.{refusal_number, room_needed}
 use Rattle.states.specs.declared.step.Outcome.{Outcome}
 use Rattle.writing.specs.Writing.{over}
 use Rattle.output.specs.Output.{bytes_of, need_of}
-use Rattle.places.specs.declared.place.Found.{Found}
-use Rattle.places.specs.declared.place.Found.TheVariants.{Nothing}
-use Rattle.places.specs.Place.{primary_of, set_event, place_of}
-use Rattle.events.specs.declared.answer.Answered.{Answered}
-use Rattle.events.specs.declared.answer.Answered.TheVariants.{Done, Refused, Short}
+use Rattle.places.specs.Place.{Found, primary_of, set_event, place_of}
+use Rattle.events.specs.declared.answer.Done.{Done}
 use Rattle.events.specs.Lists.{list_at}
 
 -- what a call answers: 01's number, which is 0 where nothing is refused; the bytes written, the ticks left over, the room needed
@@ -29,17 +28,14 @@ refusal number = record { number = number; written = 0; leftover = 0; need = 0 }
 abbrev pub short : ℕ → Answer
 short need = record { number = 22; written = 0; leftover = 0; need = need }
 
--- the answer that each case of the enum is
-abbrev pub answer_of : Answered → Answer
-answer_of (Done written leftover) = done written leftover
-answer_of (Refused number) = refusal number
-answer_of (Short need) = short need
+-- how a call ends in the code: done, or refused
+abbrev pub Answered : Type 0
+Answered = Ending Done Refusal
 
--- an answer is one value of the enum: `Refused` has not the 0 of `Done`, nor the 22 of `Short`
-abbrev pub Proper : Answered → Type 0
-Proper (Done written leftover) = Unit
-Proper (Refused number) = ¬ (number ≡ 0) × ¬ (number ≡ 22)
-Proper (Short need) = Unit
+-- what each case of it answers
+abbrev pub answer_of : Answered → Answer
+answer_of (Ok d) = done d.written d.leftover
+answer_of (Err reason) = record { number = refusal_number reason; written = 0; leftover = 0; need = room_needed reason }
 
 pub record Result : Type 0 where
   pub answer : Answer
@@ -49,7 +45,6 @@ pub record Result : Type 0 where
 -- the promise of a call: its answer, the whole table and the whole room
 pub record Leaves (result : Result) (answer : Answered) (words room : List ℕ) : Type 0 where
   pub answer_is : answer_of answer ≡ result.answer
-  pub proper : Proper answer
   pub words_are : words ≡ result.words
   pub room_is : room ≡ result.room
 
@@ -59,7 +54,7 @@ refuses number words room = record { answer = refusal number; words = words; roo
 
 -- where a virtual router stands; there is none with number 0
 unfoldable pub router_place : List ℕ → ℕ → Found
-router_place words vrid = cond (eqb vrid 0) Nothing (place_of words vrid)
+router_place words vrid = cond (eqb vrid 0) None (place_of words vrid)
 
 -- an event's outcome at a place: "22 output room smaller than the bytes this event writes", and then nothing changes; else the
 -- router's state, timer and counts are as the outcome has them, and its frames stand at the start of the room

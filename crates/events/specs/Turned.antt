@@ -1,10 +1,8 @@
 -- How the code takes an event at a place, by what it changes of the router: nobody needs to believe it, the promises are in
 -- Result.antt and Events.antt.
-use Rattle.std.specs.Prelude.{ℕ, List, Bool, true, false, cond}
+use Rattle.std.specs.Prelude.{ℕ, List, Bool, cond}
 use Rattle.states.specs.declared.record.Router.{Router}
 use Rattle.states.specs.declared.record.Turn.{Turn}
-use Rattle.states.specs.declared.step.Writes.{Writes}
-use Rattle.states.specs.declared.step.Writes.TheVariants.{Nothing, Advertisement, Farewell, Takeover}
 use Rattle.states.specs.declared.step.Outcome.{Outcome}
 use Rattle.states.specs.Turn.{applied_to}
 use Rattle.router.specs.Accept.{accepted_of}
@@ -17,10 +15,3 @@ heard_router heard r = cond heard (accepted_of r) r
 -- what the changes come to for the router at a place
 abbrev pub turned_at : List ℕ → ℕ → Bool → Turn → Outcome
 turned_at words place heard turn = applied_to (heard_router heard (record_at words place)) turn
-
--- whether nothing is written
-abbrev pub is_silent : Writes → Bool
-is_silent Nothing = true
-is_silent Advertisement = false
-is_silent Farewell = false
-is_silent Takeover = false

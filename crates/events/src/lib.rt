@@ -1,32 +1,33 @@
 // Startup, shutdown, clock and questions on the router of a VRID.
 #![tactic(auto)]
 
-pub mod answer; // how a call ends
+pub mod answer; // how a call that is done ends
 pub mod lists; // address lists in lent bytes
+pub mod heard; // a packet that was judged
 pub mod acting; // an event's outcome at a place
 
-ghost use Rattle.std.specs.Prelude.{◌≡◌, ◌<◌, length};
+ghost use Rattle.std.specs.Prelude.{Some};
 ghost use Rattle.states.specs.Step.{step_of};
-ghost use Rattle.places.specs.declared.place.Found.TheVariants.{At};
 ghost use Rattle.places.specs.Place.{primary_of, record_at};
 ghost use Rattle.events.specs.Result.{Leaves, acted_of};
 ghost use Rattle.events.specs.Events.{happened_of, clocked_at, clocked_of, asked_of, Tells};
 
 use crate::acting::{act, seek};
-use crate::answer::{Answered, Told};
+use crate::answer::Done;
 use places::interface::primary;
-use places::place::{Found, in_initialize, load, store_timer, timer};
+use places::place::{Place, in_initialize, load, store_timer, timer};
+use states::record::Router;
 use states::step::{Event, turn};
+use wire::refusal::Refusal;
 
 // An event for the router at a place; refuses by 22.
 fn happen_at(
-    words: &mut [u32],
-    lists: &[u8],
-    place: usize,
+    words: &mut [u32; 4096],
+    lists: &[u8; 16320],
+    place: Place,
     event: Event,
     out: &mut [u8],
-) -> Answered
-    requires { (place < 255) × (length words.old ≡ 4096) × (length lists.now ≡ 16320) }
+) -> Result<Done, Refusal>
     ensures { Leaves
         (acted_of words.old lists.now place
         (step_of (primary_of words.old) (record_at words.old place) event) 0 out.old)
@@ -37,56 +38,76 @@ fn happen_at(
 }
 
 // Startup or shutdown of a virtual router; refuses by 20 or 22.
-pub fn happen(words: &mut [u32], lists: &[u8], vrid: u8, event: Event, out: &mut [u8]) -> Answered
-    requires { (length words.old ≡ 4096) × (length lists.now ≡ 16320) }
+pub fn happen(
+    words: &mut [u32; 4096],
+    lists: &[u8; 16320],
+    vrid: u8,
+    event: Event,
+    out: &mut [u8],
+) -> Result<Done, Refusal>
     ensures { Leaves (happened_of words.old lists.now vrid event out.old)
         result words.new out.new }
 {
     match seek(words, vrid) {
-        Found::At(place) => happen_at(words, lists, place, event, out),
-        Found::Nothing => Answered::Refused(20),
+        Some(place) => happen_at(words, lists, place, event, out),
+        None => Err(Refusal::NoRouter),
     }
 }
 
 // A clock step for the router at a place: in Initialize nothing happens, else the timer falls, or it fires, or that is
 // refused by 22.
-fn tick_at(words: &mut [u32], lists: &[u8], place: usize, ticks: u32, out: &mut [u8]) -> Answered
-    requires { (place < 255) × (length words.old ≡ 4096) × (length lists.now ≡ 16320) }
+fn tick_at(
+    words: &mut [u32; 4096],
+    lists: &[u8; 16320],
+    place: Place,
+    ticks: u32,
+    out: &mut [u8],
+) -> Result<Done, Refusal>
     ensures { Leaves
-        (clocked_at (At place) words.old lists.now ticks out.old)
+        (clocked_at (Some place) words.old lists.now ticks out.old)
         result words.new out.new }
 {
     if in_initialize(words, place) {
-        return Answered::Done(0, 0);
+        return Ok(Done {
+            written: 0,
+            leftover: 0,
+        });
     }
     let remaining = timer(words, place);
     if ticks < remaining {
         store_timer(words, place, remaining - ticks);
-        return Answered::Done(0, 0);
+        return Ok(Done {
+            written: 0,
+            leftover: 0,
+        });
     }
     let changes = turn(load(words, place), primary(words), Event::Timer);
     act(words, lists, place, false, changes, ticks - remaining, out)
 }
 
 // A clock step of a virtual router; refuses by 20 or 22.
-pub fn tick(words: &mut [u32], lists: &[u8], vrid: u8, ticks: u32, out: &mut [u8]) -> Answered
-    requires { (length words.old ≡ 4096) × (length lists.now ≡ 16320) }
+pub fn tick(
+    words: &mut [u32; 4096],
+    lists: &[u8; 16320],
+    vrid: u8,
+    ticks: u32,
+    out: &mut [u8],
+) -> Result<Done, Refusal>
     ensures { Leaves (clocked_of words.old lists.now vrid ticks out.old)
         result words.new out.new }
 {
     match seek(words, vrid) {
-        Found::At(place) => tick_at(words, lists, place, ticks, out),
-        Found::Nothing => Answered::Refused(20),
+        Some(place) => tick_at(words, lists, place, ticks, out),
+        None => Err(Refusal::NoRouter),
     }
 }
 
 // What a virtual router is at: its record, or refusal 20.
-pub fn tell(words: &[u32], vrid: u8) -> Told
-    requires { length words.now ≡ 4096 }
+pub fn tell(words: &[u32; 4096], vrid: u8) -> Result<Router, Refusal>
     ensures { Tells (asked_of words.now vrid) result }
 {
     match seek(words, vrid) {
-        Found::At(place) => Told::Of(load(words, place)),
-        Found::Nothing => Told::Refused(20),
+        Some(place) => Ok(load(words, place)),
+        None => Err(Refusal::NoRouter),
     }
 }

@@ -1,31 +1,31 @@
 // Address lists in lent bytes: 64 for each place.
-ghost use Rattle.std.specs.Prelude.{◌≡◌, ◌≤◌, ◌<◌, length};
-ghost use Rattle.events.specs.Lists.{lists_match, set_list};
+ghost use Rattle.std.specs.Prelude.{◌≡◌, ◌*◌, ◌≤◌, length};
+ghost use Rattle.events.specs.Lists.{list_at, lists_match, set_list};
 
+use places::place::Place;
 use rooms::put;
+
+// The address bytes of a place that has so many addresses.
+pub fn list_at(lists: &[u8; 16320], place: Place, count: u8) -> &[u8]
+    requires { count ≤ 16 }
+    ensures bytes { result.now ≡ list_at lists.now place count }
+    ensures len { length result.now ≡ 4 * count }
+{
+    let start = 64 * place.index();
+    &lists[start..start + 4 * usize::from(count)]
+}
 
 // Whether two address lists have the same count, the same addresses and the same order.
 pub fn lists_match(ours: &[u8], theirs: &[u8]) -> bool
     ensures { result ≡ lists_match ours.now theirs.now }
 {
-    if ours.len() != theirs.len() {
-        return false;
-    }
-    let mut k = 0;
-    while k < ours.len() {
-        if ours[k] != theirs[k] {
-            return false;
-        }
-        k += 1;
-    }
-    true
+    ours == theirs
 }
 
 // Puts the address bytes of a place into the lists.
-pub fn put_list(lists: &mut [u8], place: usize, addresses: &[u8])
-    requires place_bound { (place < 255) × (length lists.old ≡ 16320) }
-    requires addresses_len_bound { length addresses.now ≤ 64 }
+pub fn put_list(lists: &mut [u8; 16320], place: Place, addresses: &[u8])
+    requires { length addresses.now ≤ 64 }
     ensures { lists.new ≡ set_list lists.old place addresses.now }
 {
-    put(lists, 64 * place, addresses)
+    put(lists, 64 * place.index(), addresses)
 }

@@ -4,7 +4,7 @@ use mathlib.Core.Path.{◌≡◌}
 use mathlib.Core.List.{List}
 use Prim.Native.Nat.{ℕ, ◌/◌, ◌%◌, ◌≤◌}
 use native.Mathlib.Omega.{arith}
-use lib.ListN.{length}
+use lib.ListN.{length, length-take}
 use Rattle.wire.specs.Reading.{byte_at}
 use Rattle.headers.specs.Packet.{header_length, total_length, causes, cause_of}
 use Rattle.wire.proofs.Tested.{tests}
@@ -25,3 +25,6 @@ readable packet e = let p = passed (causes packet) (omega arith) e in omega test
 pub cause_is : {r : ℕ} (packet : List ℕ) → First r (causes packet) → r ≡ cause_of packet
 unfolding cause_of
 cause_is packet h = first _ (causes packet) h
+
+-- and its header as a part of it
+pub ruleset reads = (readable, length-take)

@@ -1,27 +1,19 @@
 -- A packet that is handed over to a station (01, 'Refusal numbers', 'Counts').
-use Rattle.std.specs.Prelude.{ℕ, ◌-◌, cond, ◌&&◌, List, ◌==◌, slice_index, slice_set}
+use Rattle.std.specs.Prelude.{ℕ, ◌-◌, cond, ◌&&◌, List, ◌==◌, slice_index, slice_set, Ok, Err}
 use Rattle.judging.specs.declared.Fields.{Fields}
-use Rattle.judging.specs.declared.Judged.{Judged}
-use Rattle.judging.specs.declared.Judged.TheVariants.{Accepted, Refused}
-use Rattle.judging.specs.Judging.{judged_of}
+use Rattle.judging.specs.Judging.{Judged, judged_of}
 use Rattle.states.specs.declared.step.Event.TheVariants.{Packet}
 use Rattle.states.specs.declared.step.Outcome.{Outcome}
 use Rattle.states.specs.Step.{counted, step_of}
 use Rattle.router.specs.Accept.{router_refusal, refused_of, accepted_of}
-use Rattle.events.specs.declared.answer.Answered.TheVariants.{Refused as CallRefused}
 use Rattle.events.specs.Lists.{their_list, lists_match}
 use Rattle.station.specs.declared.station.Station.{Station}
-use Rattle.station.specs.declared.station.Stepped.{Stepped}
 use Rattle.station.specs.Station.{Result, refuses, has_router, list_of, with_router, with_refusals}
 use Rattle.station.specs.Acting.{acted_by}
 
 -- "Refusals 1 to 9 add one to that interface count"
 unfoldable pub counted_by : Station → ℕ → Station
 counted_by s number = with_refusals s (slice_set s.refusals (number - 1) (counted (slice_index s.refusals (number - 1))))
-
--- such a refusal
-abbrev pub refused_by : Station → ℕ → Stepped
-refused_by s number = record { station = counted_by s number; answer = CallRefused number }
 
 -- the first of refusals 10 to 13 that a station's router gives a packet, 0 where there is none
 unfoldable pub refusal_by : Station → List ℕ → Fields → ℕ
@@ -45,8 +37,8 @@ sought_by s packet fields room =
 
 -- "Packets, checked in this order": 1 to 8 first
 abbrev pub judged_by : Judged → Station → List ℕ → List ℕ → Result
-judged_by (Refused number) s packet room = refuses number (counted_by s number) room
-judged_by (Accepted fields) s packet room = sought_by s packet fields room
+judged_by (Err number) s packet room = refuses number (counted_by s number) room
+judged_by (Ok fields) s packet room = sought_by s packet fields room
 
 -- a packet, of any bytes
 unfoldable pub heard_by : Station → List ℕ → List ℕ → Result

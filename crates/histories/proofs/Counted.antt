@@ -10,9 +10,8 @@ use lib.Dec.{eqb, ltb}
 use lib.ListN.{length}
 use borrow.Author.Tests.{eqb-true, eqb-false, ne_eqb, le-ltb}
 use Rattle.judging.specs.declared.Fields.{Fields}
-use Rattle.judging.specs.declared.Judged.{Judged}
-use Rattle.judging.specs.declared.Judged.TheVariants.{Accepted, Refused}
-use Rattle.judging.specs.Judging.{judged_of}
+use Rattle.judging.specs.Judging.{Judged, judged_of}
+use Rattle.std.specs.Prelude.{Ok, Err, Some, None}
 use Rattle.judging.proofs.Accepted.{refused_most}
 use Rattle.states.specs.declared.record.Router.{Router}
 use Rattle.states.specs.declared.step.Event.{Event}
@@ -20,9 +19,7 @@ use Rattle.states.specs.declared.step.Event.TheVariants.{Startup, Shutdown}
 use Rattle.states.specs.declared.step.Outcome.{Outcome}
 use Rattle.states.specs.Step.{step_of}
 use Rattle.output.specs.Output.{need_of}
-use Rattle.places.specs.declared.place.Found.{Found}
-use Rattle.places.specs.declared.place.Found.TheVariants.{At, Nothing}
-use Rattle.places.specs.Place.{primary_of, record_at, set_record, place_of, refusal_count, count_refusal, count_at_place}
+use Rattle.places.specs.Place.{Found, primary_of, record_at, set_record, place_of, refusal_count, count_refusal, count_at_place}
 use Rattle.places.proofs.Finding.{found}
 use Rattle.places.proofs.Beside.{beside_count}
 use Rattle.places.proofs.Events.{event_beside, count_beside}
@@ -114,34 +111,34 @@ module _ (number : ℕ) (least : 1 ≤ number) (most : number ≤ 9) where
 
   sought_adds : (f : Found) (words lists bytes : List ℕ) (fields : Fields) (room : List ℕ) → router_place words fields.vrid ≡ f
       → length words ≡ 4096 → of words < 2 ^ 32 → Adds words (sought_at f words lists bytes fields room)
-  sought_adds Nothing words lists bytes fields room s long small = count_adds words 9 long small (omega arith)
-  sought_adds (At p) words lists bytes fields room s long small =
+  sought_adds None words lists bytes fields room s long small = count_adds words 9 long small (omega arith)
+  sought_adds (Some p) words lists bytes fields room s long small =
       heard_adds (eqb (refusal_at words lists p bytes fields) 0) words lists p bytes fields room refl small
 
   judged_adds : (j : Judged) (words lists bytes room : List ℕ) → judged_of bytes ≡ j → length words ≡ 4096 → of words < 2 ^ 32
       → Adds words (judged_at j words lists bytes room)
-  judged_adds (Refused n) words lists bytes room e long small =
+  judged_adds (Err n) words lists bytes room e long small =
       count_adds words n long small (omega (arith, refused_most bytes n (sym e)))
-  judged_adds (Accepted fields) words lists bytes room e long small =
+  judged_adds (Ok fields) words lists bytes room e long small =
       sought_adds (router_place words fields.vrid) words lists bytes fields room refl long small
 
   -- configuring and removing store a record where nothing is refused
-  put_same : (t : Bool) (f : Found) (words : List ℕ) (r : Router) → ((p : ℕ) → f ≡ At p → p < 255) → (t ≡ true → f ≡ Nothing → ⊥)
+  put_same : (t : Bool) (f : Found) (words : List ℕ) (r : Router) → ((p : ℕ) → f ≡ Some p → p < 255) → (t ≡ true → f ≡ None → ⊥)
       → length words ≡ 4096 → of (cond t (set_record words (place_in f) r) words) ≡ of words
   put_same false f words r below there long = refl
-  put_same true Nothing words r below there long = absurd (there refl refl)
-  put_same true (At p) words r below there long = store_count words p r (below p refl) long number most
+  put_same true None words r below there long = absurd (there refl refl)
+  put_same true (Some p) words r below there long = store_count words p r (below p refl) long number most
 
   happened_same : (f : Found) (words lists : List ℕ) (e : Event) (room : List ℕ)
       → of (happened_at f words lists e room).words ≡ of words
-  happened_same Nothing words lists e room = refl
-  happened_same (At p) words lists e room =
+  happened_same None words lists e room = refl
+  happened_same (Some p) words lists e room =
       acted_same words lists p (step_of (primary_of words) (record_at words p) e) 0 room
 
   clocked_same : (f : Found) (words lists : List ℕ) (d : ℕ) (room : List ℕ)
       → of (clocked_at f words lists d room).words ≡ of words
-  clocked_same Nothing words lists d room = refl
-  clocked_same (At p) words lists d room = acted_same words lists p _ _ room
+  clocked_same None words lists d room = refl
+  clocked_same (Some p) words lists d room = acted_same words lists p _ _ room
 
   call_adds : (m : Memory) (call : Call) → length m.words ≡ 4096 → of m.words < 2 ^ 32
       → of (called m call).words ≡ (of m.words + answered_by number m call) % 2 ^ 32

@@ -10,9 +10,8 @@ use lib.Dec.{eqb, ltb}
 use lib.ListN.{length}
 use borrow.Author.Tests.{eqb-true, eqb-false}
 use Rattle.judging.specs.declared.Fields.{Fields}
-use Rattle.judging.specs.declared.Judged.{Judged}
-use Rattle.judging.specs.declared.Judged.TheVariants.{Accepted, Refused}
-use Rattle.judging.specs.Judging.{judged_of}
+use Rattle.judging.specs.Judging.{Judged, judged_of}
+use Rattle.std.specs.Prelude.{Ok, Err, Some, None}
 use Rattle.judging.proofs.Accepted.{refused_most, refused_least}
 use Rattle.states.specs.declared.record.Router.{Router}
 use Rattle.states.specs.declared.step.Event.{Event}
@@ -21,9 +20,7 @@ use Rattle.states.specs.declared.step.Outcome.{Outcome}
 use Rattle.states.proofs.Kept.{Unchanged, step_unchanged}
 use Rattle.router.proofs.Kept.{ticked_unchanged}
 use Rattle.output.specs.Output.{need_of}
-use Rattle.places.specs.declared.place.Found.{Found}
-use Rattle.places.specs.declared.place.Found.TheVariants.{At, Nothing}
-use Rattle.places.specs.Place.{primary_of, record_at, set_record, place_of, count_refusal, count_at_place}
+use Rattle.places.specs.Place.{Found, primary_of, record_at, set_record, place_of, count_refusal, count_at_place}
 use Rattle.events.specs.Lists.{set_list}
 use Rattle.events.specs.Result.{Result, refuses, router_place, acted_of}
 use Rattle.events.specs.Events.{happened_at, happened_of, clocked_at, clocked_of}
@@ -40,16 +37,16 @@ use Rattle.histories.proofs.Histories.{accepted_unchanged}
 pub data Moves (words : List ℕ) : List ℕ → Type 0 where
   same : Moves words words
   counts : (n : ℕ) → 1 ≤ n → n ≤ 9 → Moves words (count_refusal words n)
-  changes : (v p : ℕ) (after : List ℕ) (r : Router) → router_place words v ≡ At p → Changed p words after r → Moves words after
+  changes : (v p : ℕ) (after : List ℕ) (r : Router) → router_place words v ≡ Some p → Changed p words after r → Moves words after
 
 -- what a call does that is to remove a virtual router, or none
 pub data Does (words lists : List ℕ) (gone : ℕ) : List ℕ → List ℕ → Type 0 where
   moves : (after : List ℕ) → Moves words after → Does words lists gone after lists
   configures : (v priority interval : ℕ) (preempt : Bool) (addresses : List ℕ) (p : ℕ)
-      → configure_refusal words v priority interval addresses ≡ 0 → place_of words 0 ≡ At p
+      → configure_refusal words v priority interval addresses ≡ 0 → place_of words 0 ≡ Some p
       → Does words lists gone (set_record words p (new_router v priority interval preempt (length addresses / 4)))
       (set_list lists p addresses)
-  frees : (p : ℕ) → remove_refusal words gone ≡ 0 → router_place words gone ≡ At p
+  frees : (p : ℕ) → remove_refusal words gone ≡ 0 → router_place words gone ≡ Some p
       → Does words lists gone (set_record words p freed) lists
 
 module _ (words lists : List ℕ) (long : length words ≡ 4096) where
@@ -57,7 +54,7 @@ module _ (words lists : List ℕ) (long : length words ≡ 4096) where
   either true a b x y = x
   either false a b x y = y
 
-  acted : (v p : ℕ) (o : Outcome) (leftover : ℕ) (room : List ℕ) → router_place words v ≡ At p
+  acted : (v p : ℕ) (o : Outcome) (leftover : ℕ) (room : List ℕ) → router_place words v ≡ Some p
       → Unchanged (record_at words p) o.router → Moves words (acted_of words lists p o leftover room).words
   unfolding acted_of
   acted v p o leftover room s same_as =
@@ -66,15 +63,15 @@ module _ (words lists : List ℕ) (long : length words ≡ 4096) where
 
   happened : (f : Found) (v : ℕ) (e : Event) (room : List ℕ) → router_place words v ≡ f
       → Moves words (happened_at f words lists e room).words
-  happened Nothing v e room s = same
-  happened (At p) v e room s = acted v p _ 0 room s (step_unchanged (primary_of words) (record_at words p) e)
+  happened None v e room s = same
+  happened (Some p) v e room s = acted v p _ 0 room s (step_unchanged (primary_of words) (record_at words p) e)
 
   clocked : (f : Found) (v d : ℕ) (room : List ℕ) → router_place words v ≡ f
       → Moves words (clocked_at f words lists d room).words
-  clocked Nothing v d room s = same
-  clocked (At p) v d room s = acted v p _ _ room s (ticked_unchanged (primary_of words) (record_at words p) d)
+  clocked None v d room s = same
+  clocked (Some p) v d room s = acted v p _ _ room s (ticked_unchanged (primary_of words) (record_at words p) d)
 
-  heard : (t : Bool) (p : ℕ) (bytes : List ℕ) (f : Fields) (room : List ℕ) → router_place words f.vrid ≡ At p
+  heard : (t : Bool) (p : ℕ) (bytes : List ℕ) (f : Fields) (room : List ℕ) → router_place words f.vrid ≡ Some p
       → eqb (refusal_at words lists p bytes f) 0 ≡ t
       → Moves words
       (cond t (acted_of words lists p (accepted_at words p f) 0 room)
@@ -87,13 +84,13 @@ module _ (words lists : List ℕ) (long : length words ≡ 4096) where
 
   sought : (f : Found) (bytes : List ℕ) (fields : Fields) (room : List ℕ) → router_place words fields.vrid ≡ f
       → Moves words (sought_at f words lists bytes fields room).words
-  sought Nothing bytes fields room s = counts 9 (omega arith) (omega arith)
-  sought (At p) bytes fields room s = heard (eqb (refusal_at words lists p bytes fields) 0) p bytes fields room s refl
+  sought None bytes fields room s = counts 9 (omega arith) (omega arith)
+  sought (Some p) bytes fields room s = heard (eqb (refusal_at words lists p bytes fields) 0) p bytes fields room s refl
 
   judged : (j : Judged) (bytes room : List ℕ) → judged_of bytes ≡ j → Moves words (judged_at j words lists bytes room).words
-  judged (Refused n) bytes room e =
+  judged (Err n) bytes room e =
       counts n (omega (arith, refused_least bytes n (sym e))) (omega (arith, refused_most bytes n (sym e)))
-  judged (Accepted fields) bytes room e = sought (router_place words fields.vrid) bytes fields room refl
+  judged (Ok fields) bytes room e = sought (router_place words fields.vrid) bytes fields room refl
 
 module _ (words lists : List ℕ) (gone : ℕ) where
   configured : (t : Bool) (f : Found) (v priority interval : ℕ) (preempt : Bool) (addresses : List ℕ) → place_of words 0 ≡ f
@@ -102,16 +99,16 @@ module _ (words lists : List ℕ) (gone : ℕ) where
       (cond t (set_record words (place_in f) (new_router v priority interval preempt (length addresses / 4))) words)
       (cond t (set_list lists (place_in f) addresses) lists)
   configured false f v priority interval preempt addresses s e = moves words same
-  configured true Nothing v priority interval preempt addresses s e =
+  configured true None v priority interval preempt addresses s e =
       absurd (never_full words v priority interval addresses (eqb-true _ 0 e) s)
-  configured true (At p) v priority interval preempt addresses s e =
+  configured true (Some p) v priority interval preempt addresses s e =
       configures v priority interval preempt addresses p (eqb-true (configure_refusal words v priority interval addresses) 0 e) s
 
   removed : (t : Bool) (f : Found) → router_place words gone ≡ f → eqb (remove_refusal words gone) 0 ≡ t
       → Does words lists gone (cond t (set_record words (place_in f) freed) words) lists
   removed false f s e = moves words same
-  removed true Nothing s e = absurd (never_unknown words gone (eqb-true (remove_refusal words gone) 0 e) s)
-  removed true (At p) s e = frees p (eqb-true (remove_refusal words gone) 0 e) s
+  removed true None s e = absurd (never_unknown words gone (eqb-true (remove_refusal words gone) 0 e) s)
+  removed true (Some p) s e = frees p (eqb-true (remove_refusal words gone) 0 e) s
 
 -- the virtual router that a call is to remove, 0 where it is to remove none
 abbrev pub gone_by : Call → ℕ

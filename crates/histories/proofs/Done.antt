@@ -24,10 +24,9 @@ use Rattle.states.specs.Step.{heard_by_backup, heard_by_master, step_in, step_of
 use Rattle.router.specs.Accept.{accepted_of}
 use Rattle.router.specs.Clock.{ticked_of}
 use Rattle.output.specs.Output.{need_of}
-use Rattle.places.specs.declared.place.Found.{Found}
-use Rattle.places.specs.declared.place.Found.TheVariants.{At, Nothing}
+use Rattle.places.specs.Place.{Found, base_of, primary_of, record_at, state_word, set_event}
+use Rattle.std.specs.Prelude.{Some, None}
 use Rattle.places.specs.Layout.{state_of, decode_of}
-use Rattle.places.specs.Place.{base_of, primary_of, record_at, state_word, set_event}
 use Rattle.places.proofs.Beside.{part_word}
 use Rattle.places.proofs.Events.{event_beside, event_record, timer_is, timer_event}
 use Rattle.events.specs.Result.{Result, router_place, acted_of}
@@ -139,8 +138,8 @@ bumped_accepted r after e =
 
 happened_changes : (f : Found) (words lists : List ℕ) (e : Event) (room : List ℕ)
     → OnlyThese words (happened_at f words lists e room).words (words_at (place_in f) (4 ∷ (5 ∷ (8 ∷ []))))
-happened_changes Nothing words lists e room = same_only words _
-happened_changes (At p) words lists e room =
+happened_changes None words lists e room = same_only words _
+happened_changes (Some p) words lists e room =
     let r = record_at words p in
     let o = step_of (primary_of words) r e in
     acted_changes words lists p o 0 room (bumped_accepted r o.router (step_bumped (primary_of words) r e))
@@ -151,8 +150,8 @@ event_changes words lists v e room = happened_changes (router_place words v) wor
 
 clocked_changes : (f : Found) (words lists : List ℕ) (d : ℕ) (room : List ℕ)
     → OnlyThese words (clocked_at f words lists d room).words (words_at (place_in f) (4 ∷ (5 ∷ (8 ∷ []))))
-clocked_changes Nothing words lists d room = same_only words _
-clocked_changes (At p) words lists d room =
+clocked_changes None words lists d room = same_only words _
+clocked_changes (Some p) words lists d room =
     let r = record_at words p in
     let t = ticked_of (primary_of words) r d in
     acted_changes words lists p t.outcome t.leftover room

@@ -9,9 +9,8 @@ use lib.Dec.{eqb, ltb}
 use lib.ListN.{length, get_or}
 use borrow.Author.Tests.{eqb-true, eqb-false, ltb-false, not-false}
 use Rattle.judging.specs.declared.Fields.{Fields}
-use Rattle.judging.specs.declared.Judged.{Judged}
-use Rattle.judging.specs.declared.Judged.TheVariants.{Accepted, Refused}
-use Rattle.judging.specs.Judging.{judged_of}
+use Rattle.judging.specs.Judging.{Judged, judged_of}
+use Rattle.std.specs.Prelude.{Ok, Err, Some, None}
 use Rattle.judging.proofs.Accepted.{refused_most}
 use Rattle.writing.specs.Writing.{address_bytes_wrong}
 use Rattle.wire.proofs.Checks.{passed}
@@ -25,9 +24,7 @@ use Rattle.states.proofs.Kept.{Unchanged, step_unchanged}
 use Rattle.router.proofs.Kept.{ticked_unchanged}
 use Rattle.router.proofs.Timed.{step_timed, ticked_timed}
 use Rattle.output.specs.Output.{need_of}
-use Rattle.places.specs.declared.place.Found.{Found}
-use Rattle.places.specs.declared.place.Found.TheVariants.{At, Nothing}
-use Rattle.places.specs.Place.{base_of, primary_of, record_at, set_record, count_at_place, place_of}
+use Rattle.places.specs.Place.{Found, base_of, primary_of, record_at, set_record, count_at_place, place_of}
 use Rattle.places.proofs.Finding.{found, missing}
 use Rattle.places.specs.Layout.{InRange}
 use Rattle.places.proofs.Records.{read_in_range}
@@ -46,7 +43,7 @@ use Rattle.configuring.proofs.Configures.{configure_most}
 use Rattle.histories.proofs.Begun.{empty_held}
 
 -- a router that was found is in use, and so it has an interval
-in_use : (words : List ℕ) → Held words → (v p : ℕ) → router_place words v ≡ At p
+in_use : (words : List ℕ) → Held words → (v p : ℕ) → router_place words v ≡ Some p
     → (p < 255) × ¬ (get_or words (base_of p) 0 ≡ 0) × (1 ≤ (record_at words p).interval)
 in_use words held v p e =
     let w = sought_word words v p e in
@@ -71,16 +68,16 @@ priority_most words p = omega (arith, (read_in_range words p).priority)
 
 happened_held : (f : Found) (words lists : List ℕ) → Held words → (v : ℕ) (e : Event) (room : List ℕ) → router_place words v ≡ f
     → Held (happened_at f words lists e room).words
-happened_held Nothing words lists held v e room s = held
-happened_held (At p) words lists held v e room s =
+happened_held None words lists held v e room s = held
+happened_held (Some p) words lists held v e room s =
     let u = in_use words held v p s in
     acted_held words lists held p u.0 u.1 _ 0 room (step_unchanged (primary_of words) (record_at words p) e)
     (step_timed (record_at words p) u.2 (priority_most words p) (primary_of words) e (held.sound p u.0).timed)
 
 clocked_held : (f : Found) (words lists : List ℕ) → Held words → (v d : ℕ) (room : List ℕ) → router_place words v ≡ f
     → Held (clocked_at f words lists d room).words
-clocked_held Nothing words lists held v d room s = held
-clocked_held (At p) words lists held v d room s =
+clocked_held None words lists held v d room s = held
+clocked_held (Some p) words lists held v d room s =
     let u = in_use words held v p s in
     acted_held words lists held p u.0 u.1 _ _ room (ticked_unchanged (primary_of words) (record_at words p) d)
     (ticked_timed (record_at words p) u.2 (priority_most words p) (primary_of words) d (held.sound p u.0).timed)
@@ -114,16 +111,16 @@ heard_test false words lists held p below used interval bytes f room e =
 
 sought_held : (f : Found) (words lists : List ℕ) → Held words → (bytes : List ℕ) (fields : Fields) (room : List ℕ)
     → router_place words fields.vrid ≡ f → Held (sought_at f words lists bytes fields room).words
-sought_held Nothing words lists held bytes fields room s = count_held words held 9 (omega arith)
-sought_held (At p) words lists held bytes fields room s =
+sought_held None words lists held bytes fields room s = count_held words held 9 (omega arith)
+sought_held (Some p) words lists held bytes fields room s =
     let u = in_use words held fields.vrid p s in
     heard_test (eqb (refusal_at words lists p bytes fields) 0) words lists held p u.0 u.1 u.2 bytes fields room refl
 
 judged_held : (j : Judged) (words lists : List ℕ) → Held words → (bytes room : List ℕ) → judged_of bytes ≡ j
     → Held (judged_at j words lists bytes room).words
-judged_held (Refused number) words lists held bytes room e =
+judged_held (Err number) words lists held bytes room e =
     count_held words held number (omega (arith, refused_most bytes number (sym e)))
-judged_held (Accepted fields) words lists held bytes room e =
+judged_held (Ok fields) words lists held bytes room e =
     sought_held (router_place words fields.vrid) words lists held bytes fields room refl
 
 -- "17 address bytes not a multiple of 4, none, or above 64": the others are 1 to 16 addresses
@@ -141,10 +138,10 @@ fresh_held : (f g : Found) (words : List ℕ) → Held words → (v priority int
     → place_of words v ≡ g → is_found f ≡ true → is_found g ≡ false → InRange (new_router v priority interval preempt n)
     → (1 ≤ interval) × (1 ≤ priority) × (1 ≤ n) × (n ≤ 16) → ¬ (v ≡ 0)
     → Held (set_record words (place_in f) (new_router v priority interval preempt n))
-fresh_held Nothing g words held v priority interval preempt n a b c d range i some = absurd (let z : ◌≡◌ {A = ℕ} 0 1 = cc in omega arith)
-fresh_held (At q) (At k) words held v priority interval preempt n a b c d range i some =
+fresh_held None g words held v priority interval preempt n a b c d range i some = absurd (let z : ◌≡◌ {A = ℕ} 0 1 = cc in omega arith)
+fresh_held (Some q) (Some k) words held v priority interval preempt n a b c d range i some =
     absurd (let z : ◌≡◌ {A = ℕ} 0 1 = cc in omega arith)
-fresh_held (At q) Nothing words held v priority interval preempt n a b c d range i some =
+fresh_held (Some q) None words held v priority interval preempt n a b c d range i some =
     let l = found words 0 q a in
     store_held words held q (omega (arith, l.below)) (new_router v priority interval preempt n) range refl (λ z. i)
     (λ z. absurd (some z))
@@ -170,8 +167,8 @@ configure_test true words held v priority interval preempt addresses a b c e =
 -- removing: the place gets no VRID
 free_held : (f : Found) (words : List ℕ) → Held words → (v : ℕ) → router_place words v ≡ f → is_found f ≡ true
     → Held (set_record words (place_in f) freed)
-free_held Nothing words held v s e = absurd (let z : ◌≡◌ {A = ℕ} 0 1 = cc in omega arith)
-free_held (At p) words held v s e =
+free_held None words held v s e = absurd (let z : ◌≡◌ {A = ℕ} 0 1 = cc in omega arith)
+free_held (Some p) words held v s e =
     store_held words held p (sought_word words v p s).0 freed
     (record { vrid = omega arith; priority = omega arith; interval = omega arith; count = omega arith })
     refl (λ z. absurd (z refl)) (λ z. refl) (λ q u n y. refl)

@@ -10,9 +10,8 @@ use lib.Dec.{eqb, ltb}
 use lib.ListN.{length, length-set}
 use lib.Seq.{get_or-set_same, get_or-set_other}
 use borrow.Author.Tests.{eqb-false, ne_eqb, le-leb, lt-leb}
-use Rattle.judging.specs.declared.Judged.{Judged}
-use Rattle.judging.specs.declared.Judged.TheVariants.{Accepted, Refused}
-use Rattle.judging.specs.Judging.{judged_of, fields_of}
+use Rattle.judging.specs.Judging.{Judged, judged_of, fields_of}
+use Rattle.std.specs.Prelude.{Ok, Err, Some, None}
 use Rattle.judging.proofs.Accepted.{refused_most, refused_least, accepted_is}
 use Rattle.states.specs.declared.record.State.{State}
 use Rattle.states.specs.declared.step.Event.{Event}
@@ -20,10 +19,7 @@ use Rattle.states.specs.declared.step.Outcome.{Outcome}
 use Rattle.states.specs.Step.{stays, step_of}
 use Rattle.router.specs.Clock.{ticked_in, ticked_of}
 use Rattle.output.specs.Output.{need_of}
-use Rattle.places.specs.declared.place.Found.{Found}
-use Rattle.places.specs.declared.place.Found.TheVariants.{At, Nothing}
-use Rattle.places.specs.Place.{primary_of, record_at, set_event}
-use Rattle.places.specs.Place.{count_word, count_refusal, router_word, count_at_place}
+use Rattle.places.specs.Place.{Found, primary_of, record_at, set_event, count_word, count_refusal, router_word, count_at_place}
 use Rattle.places.proofs.Events.{event_same}
 use Rattle.events.specs.Result.{Result, refuses, router_place, acted_of}
 use Rattle.events.specs.Events.{happened_at, happened_of, clocked_at, clocked_of}
@@ -68,8 +64,8 @@ module _ (words after room : List ℕ) (r : Result) where
 
 happened_keeps : (f : Found) (words lists : List ℕ) (e : Event) (room : List ℕ)
     → ¬ ((happened_at f words lists e room).answer.number ≡ 0) → Keeps words room (happened_at f words lists e room)
-happened_keeps Nothing words lists e room = λ n. record { words_stay = refl; room_stays = refl }
-happened_keeps (At p) words lists e room =
+happened_keeps None words lists e room = λ n. record { words_stay = refl; room_stays = refl }
+happened_keeps (Some p) words lists e room =
     ends_keep words _ room _ (acted_ends words lists p (step_of (primary_of words) (record_at words p) e) 0 room)
 
 pub refused_event : RefusedEvent
@@ -78,8 +74,8 @@ refused_event words lists v e room = happened_keeps (router_place words v) words
 
 clocked_keeps : (f : Found) (words lists : List ℕ) (d : ℕ) (room : List ℕ)
     → ¬ ((clocked_at f words lists d room).answer.number ≡ 0) → Keeps words room (clocked_at f words lists d room)
-clocked_keeps Nothing words lists d room = λ n. record { words_stay = refl; room_stays = refl }
-clocked_keeps (At p) words lists d room =
+clocked_keeps None words lists d room = λ n. record { words_stay = refl; room_stays = refl }
+clocked_keeps (Some p) words lists d room =
     let t = ticked_of (primary_of words) (record_at words p) d in
     ends_keep words _ room _ (acted_ends words lists p t.outcome t.leftover room)
 
@@ -117,7 +113,7 @@ module _ (words lists bytes room : List ℕ) where
       let w = interface_word n most in
       refused n least (omega arith) (omega arith) (rw w)
 
-  heard_test : (t : Bool) (p : ℕ) → router_place words (fields_of bytes).vrid ≡ At p
+  heard_test : (t : Bool) (p : ℕ) → router_place words (fields_of bytes).vrid ≡ Some p
       → eqb (refusal_at words lists p bytes (fields_of bytes)) 0 ≡ t
       → Ending
       (cond t (acted_of words lists p (accepted_at words p (fields_of bytes)) 0 room)
@@ -134,14 +130,14 @@ module _ (words lists bytes room : List ℕ) where
 
   sought_ends : (f : Found) → router_place words (fields_of bytes).vrid ≡ f
       → Ending (sought_at f words lists bytes (fields_of bytes) room)
-  sought_ends Nothing e = interface_refused 9 (omega arith) (omega arith)
-  sought_ends (At p) e = heard_test (eqb (refusal_at words lists p bytes (fields_of bytes)) 0) p e refl
+  sought_ends None e = interface_refused 9 (omega arith) (omega arith)
+  sought_ends (Some p) e = heard_test (eqb (refusal_at words lists p bytes (fields_of bytes)) 0) p e refl
 
   judged_ends : (j : Judged) → judged_of bytes ≡ j → Ending (judged_at j words lists bytes room)
-  judged_ends (Refused n) e =
+  judged_ends (Err n) e =
       let least = refused_least bytes n (sym e) in
       interface_refused n (omega arith) (omega (arith, refused_most bytes n (sym e)))
-  judged_ends (Accepted fields) e =
+  judged_ends (Ok fields) e =
       rw (accepted_is bytes fields (sym e)).1 (sought_ends (router_place words (fields_of bytes).vrid) refl)
 
   pub heard_ends : Ending (heard_of words lists bytes room)

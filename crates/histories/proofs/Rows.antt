@@ -13,15 +13,13 @@ use borrow.Author.Tests.{eqb-true, eqb-false, ne_eqb}
 use Rattle.wire.specs.Check.{Check, first_refusal, Passes}
 use Rattle.wire.proofs.Checks.{Numbered, passed, all_pass, refusal_after, refusal_before}
 use Rattle.judging.specs.declared.Fields.{Fields}
-use Rattle.judging.specs.declared.Judged.TheVariants.{Accepted, Refused as JudgedRefused}
+use Rattle.std.specs.Prelude.{Ok, Err, Some, None}
 use Rattle.judging.specs.Judging.{packet_checks as judging_checks, refusal_of, fields_of, judged_of}
 use Rattle.judging.proofs.Accepted.{refusal_most}
 use Rattle.states.specs.declared.step.Event.{Event}
 use Rattle.states.specs.declared.step.Outcome.{Outcome}
 use Rattle.router.specs.Accept.{router_refusal}
-use Rattle.places.specs.declared.place.Found.{Found}
-use Rattle.places.specs.declared.place.Found.TheVariants.{At, Nothing}
-use Rattle.places.specs.Place.{count_at_place}
+use Rattle.places.specs.Place.{Found, count_at_place}
 use Rattle.events.specs.Result.{Answer, Result, refusal, refuses, router_place, acted_of}
 use Rattle.events.specs.Events.{happened_of, clocked_of, Status, asked_of}
 use Rattle.configuring.specs.Configuring.{configure_checks, configure_refusal, remove_checks, remove_refusal}
@@ -109,8 +107,8 @@ event_at : (f : Found) (words lists : List ℕ) (v : ℕ) (e : Event) (room : Li
     → (happened_of words lists v e room).answer
     ≡ answer_by (first_refusal (event_checks words v e room)) (needs (event_outcome words v e)) 0
 unfolding happened_of
-event_at Nothing words lists v e room s = rw s
-event_at (At p) words lists v e room s = rw s (acted_by_lem words lists p _ 0 room)
+event_at None words lists v e room s = rw s
+event_at (Some p) words lists v e room s = rw s (acted_by_lem words lists p _ 0 room)
 
 pub event_values : EventValues
 event_values words lists v e room = event_at (router_place words v) words lists v e room refl
@@ -120,8 +118,8 @@ clock_at : (f : Found) (words lists : List ℕ) (v d : ℕ) (room : List ℕ) �
     ≡ answer_by (first_refusal (clock_checks words v d room)) (needs (clock_ticked words v d).outcome)
     (clock_ticked words v d).leftover
 unfolding clocked_of
-clock_at Nothing words lists v d room s = rw s
-clock_at (At p) words lists v d room s = rw s (acted_by_lem words lists p _ _ room)
+clock_at None words lists v d room s = rw s
+clock_at (Some p) words lists v d room s = rw s (acted_by_lem words lists p _ _ room)
 
 pub clock_values : ClockValues
 clock_values words lists v d room = clock_at (router_place words v) words lists v d room refl
@@ -144,15 +142,15 @@ heard_by_lem words lists p bytes f room =
 sought_by_lem : (f : Found) (words lists bytes room : List ℕ) → router_place words (fields_of bytes).vrid ≡ f
     → (sought_at (router_place words (fields_of bytes).vrid) words lists bytes (fields_of bytes) room).answer
     ≡ answer_by (first_refusal (table_checks words lists bytes room)) (needs (packet_outcome words bytes)) 0
-sought_by_lem Nothing words lists bytes room s = rw s
-sought_by_lem (At p) words lists bytes room s = rw s (heard_by_lem words lists p bytes (fields_of bytes) room)
+sought_by_lem None words lists bytes room s = rw s
+sought_by_lem (Some p) words lists bytes room s = rw s (heard_by_lem words lists p bytes (fields_of bytes) room)
 
 pub packet_values : PacketValues
 unfolding heard_of judged_of refusal_of
 packet_values words lists bytes room =
     let number = first_refusal (judging_checks bytes) in
     both_by (judging_checks bytes) (table_checks words lists bytes room) (needs (packet_outcome words bytes)) 0
-    (λ (t : Bool). (judged_at (cond t (Accepted (fields_of bytes)) (JudgedRefused number)) words lists bytes room).answer)
+    (λ (t : Bool). (judged_at (cond t (Ok (fields_of bytes)) (Err number)) words lists bytes room).answer)
     (omega arith) (omega (arith, refusal_most 8 (judging_checks bytes) (omega arith)))
     (sought_by_lem (router_place words (fields_of bytes).vrid) words lists bytes room refl) refl
 
@@ -160,8 +158,8 @@ packet_values words lists bytes room =
 told_at : (f : Found) (words : List ℕ) (v : ℕ) → router_place words v ≡ f
     → asked_of words v ≡ status_by (first_refusal (question_checks words v)) (record_for words v)
 unfolding asked_of
-told_at Nothing words v s = rw s
-told_at (At p) words v s = rw s
+told_at None words v s = rw s
+told_at (Some p) words v s = rw s
 
 pub question_values : QuestionValues
 question_values words v = told_at (router_place words v) words v refl

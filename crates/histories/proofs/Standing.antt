@@ -13,9 +13,8 @@ use Rattle.writing.specs.Writing.{address_bytes_wrong}
 use Rattle.wire.proofs.Checks.{passed}
 use Rattle.wire.proofs.Tested.{two_passed}
 use Rattle.states.specs.declared.record.Router.{Router}
-use Rattle.places.specs.declared.place.Found.{Found}
-use Rattle.places.specs.declared.place.Found.TheVariants.{At, Nothing}
-use Rattle.places.specs.Place.{base_of, record_at, set_record, place_of}
+use Rattle.places.specs.Place.{Found, base_of, record_at, set_record, place_of}
+use Rattle.std.specs.Prelude.{Some, None}
 use Rattle.places.proofs.Finding.{found, missing}
 use Rattle.places.proofs.Parts.{part_same}
 use Rattle.places.proofs.Records.{read_in_range, record_same}
@@ -37,25 +36,25 @@ use Rattle.histories.proofs.Stays.{Still, does_long, as_it_was, still}
 
 -- a virtual router by its number, which no other place has
 only_test : (f : Found) (words : List ℕ) → Held words → (v p : ℕ) → p < 255 → get_or words (base_of p) 0 ≡ v → ¬ (v ≡ 0)
-    → router_place words v ≡ f → f ≡ At p
+    → router_place words v ≡ f → f ≡ Some p
 unfolding router_place
-only_test Nothing words held v p below w some e =
-    absurd (missing words v (sym (ap (λ (t : Bool). cond t Nothing (place_of words v)) (ne_eqb v 0 some)) ∙ e) p below w)
-only_test (At q) words held v p below w some e = other (same_or_not q p)
+only_test None words held v p below w some e =
+    absurd (missing words v (sym (ap (λ (t : Bool). cond t None (place_of words v)) (ne_eqb v 0 some)) ∙ e) p below w)
+only_test (Some q) words held v p below w some e = other (same_or_not q p)
   where
     there : (q < 255) × (get_or words (base_of q) 0 ≡ v) × (v ≡ 0 → ⊥)
     there = sought_word words v q e
 
-    other : (q ≡ p) ⊎ (q ≡ p → ⊥) → At q ≡ At p
-    other (inl z) = ap At z
+    other : (q ≡ p) ⊎ (q ≡ p → ⊥) → Some q ≡ Some p
+    other (inl z) = ap Some z
     other (inr n) = absurd (some (sym there.1 ∙ held.unique q p there.0 below n (there.1 ∙ sym w)))
 
 pub only_place : (words : List ℕ) → Held words → (v p : ℕ) → p < 255 → get_or words (base_of p) 0 ≡ v → ¬ (v ≡ 0)
-    → router_place words v ≡ At p
+    → router_place words v ≡ Some p
 only_place words held v p below w some = only_test (router_place words v) words held v p below w some refl
 
 -- a call that does not remove a virtual router leaves it where it stands
-module _ (m : Memory) (held : Held m.words) (v p : ℕ) (at : router_place m.words v ≡ At p) where
+module _ (m : Memory) (held : Held m.words) (v p : ℕ) (at : router_place m.words v ≡ Some p) where
   abbrev StillBy : Call → Type 0
   StillBy call = Still m.words m.lists (called m call).words (called m call).lists v p
 
@@ -149,7 +148,7 @@ module _ (m : Memory) (held : Held m.words) (v priority interval : ℕ) (preempt
   then = called m (configure v priority interval preempt addresses)
 
   -- at the lowest free place
-  pub fresh_at : (p : ℕ) → place_of m.words 0 ≡ At p → (router_place then.words v ≡ At p) × (record_at then.words p ≡ fresh)
+  pub fresh_at : (p : ℕ) → place_of m.words 0 ≡ Some p → (router_place then.words v ≡ Some p) × (record_at then.words p ≡ fresh)
   unfolding configure_refusal
   fresh_at p s =
       let checks = passed (configure_checks m.words v priority interval addresses) (omega arith) none in
@@ -168,8 +167,8 @@ module _ (m : Memory) (held : Held m.words) (v priority interval : ℕ) (preempt
   begins_at : (f : Found) → length m.lists ≡ 16320 → place_of m.words 0 ≡ f
       → Standing then v priority interval preempt addresses
   unfolding configure_refusal
-  begins_at Nothing long s = absurd (never_full m.words v priority interval addresses none s)
-  begins_at (At p) long s =
+  begins_at None long s = absurd (never_full m.words v priority interval addresses none s)
+  begins_at (Some p) long s =
       let checks = passed (configure_checks m.words v priority interval addresses) (omega arith) none in
       let most = configure_most m.words v priority interval addresses none in
       let below : p < 255 = omega (arith, (found m.words 0 p s).below) in

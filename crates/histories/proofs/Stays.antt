@@ -13,9 +13,8 @@ use borrow.Author.Tests.{ne_eqb}
 use Rattle.wire.proofs.Checks.{passed}
 use Rattle.states.specs.declared.record.Router.{Router}
 use Rattle.states.proofs.Kept.{Kept}
-use Rattle.places.specs.declared.place.Found.{Found}
-use Rattle.places.specs.declared.place.Found.TheVariants.{At, Nothing}
-use Rattle.places.specs.Place.{base_of, primary_of, record_at, set_record, place_of, refusal_count}
+use Rattle.places.specs.Place.{Found, base_of, primary_of, record_at, set_record, place_of, refusal_count}
+use Rattle.std.specs.Prelude.{Some, None}
 use Rattle.places.proofs.Beside.{beside_first, beside_record, beside_primary}
 use Rattle.places.proofs.Finding.{found, same_place}
 use Rattle.places.proofs.Records.{record_other}
@@ -80,7 +79,7 @@ does_long words lists gone w l long (frees p e s) = long
 pub same_router : (a b : List ℕ) (v : ℕ) → ((q : ℕ) → eqb (get_or a (base_of q) 0) v ≡ eqb (get_or b (base_of q) 0) v)
     → router_place a v ≡ router_place b v
 unfolding router_place
-same_router a b v h = ap (λ (f : Found). cond (eqb v 0) Nothing f) (same_place a b v h)
+same_router a b v h = ap (λ (f : Found). cond (eqb v 0) None f) (same_place a b v h)
 
 -- so it is where another record is stored at a place that neither had nor has its number
 pub stored_test : (words : List ℕ) (q : ℕ) (r : Router) (v : ℕ) → q < 255 → length words ≡ 4096 → ¬ (r.vrid ≡ v)
@@ -93,17 +92,17 @@ stored_test words q r v below long new old k (inl e) =
 stored_test words q r v below long new old k (inr n) = ap (λ (x : ℕ). eqb x v) (first_other words q r below long k n)
 
 -- a virtual router is found by its number
-found_test : (t : Bool) (words : List ℕ) (v p : ℕ) → cond t Nothing (place_of words v) ≡ At p → place_of words v ≡ At p
+found_test : (t : Bool) (words : List ℕ) (v p : ℕ) → cond t None (place_of words v) ≡ Some p → place_of words v ≡ Some p
 found_test true words v p e = absurd (let z : ◌≡◌ {A = ℕ} 0 1 = cc in omega arith)
 found_test false words v p e = e
 
-sought_found : (words : List ℕ) (v p : ℕ) → router_place words v ≡ At p → place_of words v ≡ At p
+sought_found : (words : List ℕ) (v p : ℕ) → router_place words v ≡ Some p → place_of words v ≡ Some p
 unfolding router_place
 sought_found words v p e = found_test (eqb v 0) words v p e
 
 -- how a virtual router stands after a call that does not remove it
 pub record Still (words lists w l : List ℕ) (v p : ℕ) : Type 0 where
-  pub place : router_place w v ≡ At p
+  pub place : router_place w v ≡ Some p
   pub kept : Kept (record_at words p) (record_at w p)
   pub list : length lists ≡ 16320 → (n : ℕ) → n ≤ 16 → list_at l p n ≡ list_at lists p n
 
@@ -111,7 +110,7 @@ pub record Still (words lists w l : List ℕ) (v p : ℕ) : Type 0 where
 pub as_it_was : (r : Router) → Kept r r
 as_it_was r = record { vrid = refl; priority = refl; interval = refl; preempt = refl; count = refl }
 
-module _ (words lists : List ℕ) (held : Held words) (v p : ℕ) (at : router_place words v ≡ At p) where
+module _ (words lists : List ℕ) (held : Held words) (v p : ℕ) (at : router_place words v ≡ Some p) where
   word : (p < 255) × (get_or words (base_of p) 0 ≡ v) × (v ≡ 0 → ⊥)
   word = sought_word words v p at
 

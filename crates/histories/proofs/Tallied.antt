@@ -10,9 +10,8 @@ use lib.Dec.{eqb, ltb}
 use lib.ListN.{length}
 use borrow.Author.Tests.{eqb-true, eqb-false, eq-eqb, ne_eqb}
 use Rattle.judging.specs.declared.Fields.{Fields}
-use Rattle.judging.specs.declared.Judged.{Judged}
-use Rattle.judging.specs.declared.Judged.TheVariants.{Accepted, Refused}
-use Rattle.judging.specs.Judging.{judged_of}
+use Rattle.judging.specs.Judging.{Judged, judged_of}
+use Rattle.std.specs.Prelude.{Ok, Err, Some, None}
 use Rattle.judging.proofs.Accepted.{refused_most}
 use Rattle.states.specs.declared.record.Counts.{Counts}
 use Rattle.states.specs.declared.record.Router.{Router}
@@ -24,9 +23,7 @@ use Rattle.router.specs.Accept.{refused_counts, accepted_of, accepted_counts}
 use Rattle.states.proofs.Kept.{Unchanged, step_unchanged}
 use Rattle.router.proofs.Kept.{ticked_unchanged}
 use Rattle.output.specs.Output.{need_of}
-use Rattle.places.specs.declared.place.Found.{Found}
-use Rattle.places.specs.declared.place.Found.TheVariants.{At, Nothing}
-use Rattle.places.specs.Place.{primary_of, record_at, set_record, set_event, place_of, count_refusal, count_at_place}
+use Rattle.places.specs.Place.{Found, primary_of, record_at, set_record, set_event, place_of, count_refusal, count_at_place}
 use Rattle.places.proofs.Beside.{beside_record}
 use Rattle.places.proofs.Finding.{found}
 use Rattle.places.specs.Layout.{InRange}
@@ -88,7 +85,7 @@ accepted_form : (t : Bool) (c : Counts) → cond t (became_master (accepted_coun
 accepted_form true c = refl
 accepted_form false c = refl
 
-at_same : (q p : ℕ) → At q ≡ At p → q ≡ p
+at_same : (q p : ℕ) → Some q ≡ Some p → q ≡ p
 at_same q p e = ap place_in e
 
 module _ (p : ℕ) (below : p < 255) (words : List ℕ) (long : length words ≡ 4096) where
@@ -123,15 +120,15 @@ module _ (p : ℕ) (below : p < 255) (words : List ℕ) (long : length words ≡
 
   pub happened : (f : Found) (lists : List ℕ) (v : ℕ) (e : Event) (room : List ℕ) → router_place words v ≡ f
       → Same (happened_at f words lists e room).words
-  happened Nothing lists v e room s = unchanged words refl
-  happened (At q) lists v e room s =
+  happened None lists v e room s = unchanged words refl
+  happened (Some q) lists v e room s =
       acted lists q _ 0 room (sought_below words v q s) (step_unchanged (primary_of words) (record_at words q) e)
       (step_bumped (primary_of words) (record_at words q) e)
 
   pub clocked : (f : Found) (lists : List ℕ) (v d : ℕ) (room : List ℕ) → router_place words v ≡ f
       → Same (clocked_at f words lists d room).words
-  clocked Nothing lists v d room s = unchanged words refl
-  clocked (At q) lists v d room s =
+  clocked None lists v d room s = unchanged words refl
+  clocked (Some q) lists v d room s =
       acted lists q _ _ room (sought_below words v q s) (ticked_unchanged (primary_of words) (record_at words q) d)
       (ticked_bumped (primary_of words) (record_at words q) d)
 
@@ -191,29 +188,29 @@ module _ (p : ℕ) (below : p < 255) (words : List ℕ) (long : length words ≡
       let range = refused_range words lists bytes p f _ refl (eqb-false (refusal_at words lists p bytes f) 0 e) in
       refused (refusal_at words lists p bytes f) room range.0 range.1
 
-  heard_at_lem : (q : ℕ) (lists bytes : List ℕ) (f : Fields) (room : List ℕ) → router_place words f.vrid ≡ At q
-      → (p ≡ q) ⊎ (p ≡ q → ⊥) → Heard (At q) (heard_at words lists q bytes f room)
+  heard_at_lem : (q : ℕ) (lists bytes : List ℕ) (f : Fields) (room : List ℕ) → router_place words f.vrid ≡ Some q
+      → (p ≡ q) ⊎ (p ≡ q → ⊥) → Heard (Some q) (heard_at words lists q bytes f room)
   heard_at_lem q lists bytes f room s (inl e) =
-      subst (λ (k : ℕ). Heard (At k) (heard_at words lists k bytes f room)) e
+      subst (λ (k : ℕ). Heard (Some k) (heard_at words lists k bytes f room)) e
       (subst (λ (t : Bool). HeardAs t (heard_at words lists p bytes f room)) (sym (eq-eqb p p refl))
       (heard_here_test (eqb (refusal_at words lists p bytes f) 0) lists bytes f room refl))
   heard_at_lem q lists bytes f room s (inr n) =
       subst (λ (t : Bool). HeardAs t (heard_at words lists q bytes f room)) (sym (ne_eqb q p (λ z. n (sym z))))
       (form (heard_at words lists q bytes f room).words
-      (unchanged _ (heard_elsewhere (At q) words lists bytes f room p (λ z. n (sym (at_same q p z))))))
+      (unchanged _ (heard_elsewhere (Some q) words lists bytes f room p (λ z. n (sym (at_same q p z))))))
 
   sought : (f : Found) (lists bytes : List ℕ) (fields : Fields) (room : List ℕ) → router_place words fields.vrid ≡ f
       → Heard f (sought_at f words lists bytes fields room)
-  sought Nothing lists bytes fields room s =
+  sought None lists bytes fields room s =
       form (count_refusal words 9) (unchanged (count_refusal words 9) (count_record words 9 (omega arith) p))
-  sought (At q) lists bytes fields room s = heard_at_lem q lists bytes fields room s (same_or_not p q)
+  sought (Some q) lists bytes fields room s = heard_at_lem q lists bytes fields room s (same_or_not p q)
 
   pub judged : (j : Judged) (lists bytes room : List ℕ) → judged_of bytes ≡ j
       → Heard (addressee words j) (judged_at j words lists bytes room)
-  judged (Refused n) lists bytes room e =
+  judged (Err n) lists bytes room e =
       form (count_refusal words n)
       (unchanged (count_refusal words n) (count_record words n (omega (arith, refused_most bytes n (sym e))) p))
-  judged (Accepted fields) lists bytes room e = sought (router_place words fields.vrid) lists bytes fields room refl
+  judged (Ok fields) lists bytes room e = sought (router_place words fields.vrid) lists bytes fields room refl
 
   -- a record with no counts, put at the place that was found where nothing is refused
   abbrev Put : Bool → Bool → List ℕ → Type 0
@@ -232,11 +229,11 @@ module _ (p : ℕ) (below : p < 255) (words : List ℕ) (long : length words ≡
       subst (λ (t : Bool). Put true t (set_record words q r)) (sym (ne_eqb q p (λ z. n (sym z))))
       (form (set_record words q r) (unchanged (set_record words q r) (record_other words q r low long p n)))
 
-  pub put : (t : Bool) (f : Found) (r : Router) → ((q : ℕ) → f ≡ At q → q < 255) → (t ≡ true → (f ≡ Nothing → ⊥) × InRange r)
+  pub put : (t : Bool) (f : Found) (r : Router) → ((q : ℕ) → f ≡ Some q → q < 255) → (t ≡ true → (f ≡ None → ⊥) × InRange r)
       → r.counts ≡ no_counts → Put t (is_at f p) (cond t (set_record words (place_in f) r) words)
   put false f r low good none = form words (unchanged words refl)
-  put true Nothing r low good none = absurd ((good refl).0 refl)
-  put true (At q) r low good none = put_at q r (low q refl) (good refl).1 none (same_or_not p q)
+  put true None r low good none = absurd ((good refl).0 refl)
+  put true (Some q) r low good none = put_at q r (low q refl) (good refl).1 none (same_or_not p q)
 
 -- the numbers after a call
 pub tally_test : (t a b o u l i : Bool) (n : Counts) → cond t no_counts (Bumps a b o u l i (modulo n))

@@ -10,9 +10,8 @@ use lib.Dec.{eqb, ltb}
 use lib.ListN.{length}
 use borrow.Author.Tests.{eqb-true, eqb-false}
 use Rattle.judging.specs.declared.Fields.{Fields}
-use Rattle.judging.specs.declared.Judged.{Judged}
-use Rattle.judging.specs.declared.Judged.TheVariants.{Accepted, Refused}
-use Rattle.judging.specs.Judging.{judged_of}
+use Rattle.judging.specs.Judging.{Judged, judged_of}
+use Rattle.std.specs.Prelude.{Ok, Err, Some, None}
 use Rattle.judging.proofs.Accepted.{refused_most}
 use Rattle.states.specs.declared.record.Router.{Router}
 use Rattle.states.specs.declared.step.Event.{Event}
@@ -20,9 +19,7 @@ use Rattle.states.specs.declared.step.Outcome.{Outcome}
 use Rattle.states.specs.Step.{step_of}
 use Rattle.router.specs.Clock.{ticked_of}
 use Rattle.output.specs.Output.{need_of}
-use Rattle.places.specs.declared.place.Found.{Found}
-use Rattle.places.specs.declared.place.Found.TheVariants.{At, Nothing}
-use Rattle.places.specs.Place.{primary_of, record_at, set_record, count_at_place, place_of}
+use Rattle.places.specs.Place.{Found, primary_of, record_at, set_record, count_at_place, place_of}
 use Rattle.places.proofs.Beside.{beside_record}
 use Rattle.places.proofs.Events.{event_beside, count_beside}
 use Rattle.places.proofs.Finding.{found, missing}
@@ -30,13 +27,10 @@ use Rattle.places.proofs.Parts.{part_other, apart}
 use Rattle.places.proofs.Records.{record_other}
 use Rattle.places.proofs.Words.{count_record}
 use Rattle.events.specs.Lists.{list_at, set_list}
-use Rattle.events.specs.declared.answer.Answered.{Answered}
-use Rattle.events.specs.declared.answer.Answered.TheVariants.{Done, Refused as CallRefused, Short}
-use Rattle.events.specs.declared.answer.Told.{Told}
-use Rattle.events.specs.declared.answer.Told.TheVariants.{Of, Refused as ToldRefused}
-use Rattle.events.specs.Result.{Answer, answer_of, Proper, Result, refuses, router_place, acted_of}
+use Rattle.wire.proofs.Refusals.{nonzero, same_refusal}
+use Rattle.events.specs.Result.{Answered, Answer, answer_of, Result, refuses, router_place, acted_of}
 use Rattle.configuring.specs.Configuring.{place_in, new_router, freed, configure_refusal, remove_refusal}
-use Rattle.events.specs.Events.{happened_at, happened_of, clocked_at, clocked_of, Status, status_of, ProperTold}
+use Rattle.events.specs.Events.{happened_at, happened_of, clocked_at, clocked_of, Status, Told, status_of, ProperTold}
 use Rattle.packets.specs.Packets.{refusal_at, accepted_at, sought_at, judged_at, heard_of}
 use Rattle.packets.proofs.Heard.{refused_range}
 use Rattle.histories.specs.Theorems.{OneResult, OneStatus, OneConfiguring, OneRemoving, EventElsewhere, ClockElsewhere}
@@ -45,33 +39,26 @@ use Rattle.histories.specs.Theorems.{LowestFreePlace, NoFreePlace}
 use Rattle.configuring.proofs.Configures.{configure_most, never_full, never_unknown}
 use Rattle.events.proofs.Sought.{sought_below}
 
--- an answer is one value of the enum
-one_answer : (a b : Answered) → Proper a → Proper b → answer_of a ≡ answer_of b → a ≡ b
-one_answer (Done w l) (Done x k) p q e = rw (ap (λ (c : Answer). c.written) e, ap (λ (c : Answer). c.leftover) e)
-one_answer (Done w l) (CallRefused n) p q e = absurd (q.0 (sym (ap (λ (c : Answer). c.number) e)))
-one_answer (Done w l) (Short need) p q e =
-    absurd (let z : ◌≡◌ {A = ℕ} 0 22 = ap (λ (c : Answer). c.number) e in omega arith)
-one_answer (CallRefused n) (Done x k) p q e = absurd (p.0 (ap (λ (c : Answer). c.number) e))
-one_answer (CallRefused n) (CallRefused m) p q e = ap CallRefused (ap (λ (c : Answer). c.number) e)
-one_answer (CallRefused n) (Short need) p q e = absurd (p.1 (ap (λ (c : Answer). c.number) e))
-one_answer (Short need) (Done x k) p q e =
-    absurd (let z : ◌≡◌ {A = ℕ} 22 0 = ap (λ (c : Answer). c.number) e in omega arith)
-one_answer (Short need) (CallRefused n) p q e = absurd (q.1 (sym (ap (λ (c : Answer). c.number) e)))
-one_answer (Short need) (Short other) p q e = ap Short (ap (λ (c : Answer). c.need) e)
+-- an answer is one value of its type
+one_answer : (a b : Answered) → answer_of a ≡ answer_of b → a ≡ b
+one_answer (Ok d) (Ok o) e = rw (ap (λ (c : Answer). c.written) e, ap (λ (c : Answer). c.leftover) e)
+one_answer (Ok d) (Err r) e = absurd (nonzero r (sym (ap (λ (c : Answer). c.number) e)))
+one_answer (Err r) (Ok d) e = absurd (nonzero r (ap (λ (c : Answer). c.number) e))
+one_answer (Err r) (Err q) e = ap Err (same_refusal r q (ap (λ (c : Answer). c.number) e) (ap (λ (c : Answer). c.need) e))
 
 pub one_result : OneResult
 one_result result a b words other room other_room x y = (
-  one_answer a b x.proper y.proper (x.answer_is ∙ sym y.answer_is),
+  one_answer a b (x.answer_is ∙ sym y.answer_is),
   x.words_are ∙ sym y.words_are,
   x.room_is ∙ sym y.room_is,
 )
 
 -- and so is a status
 told_test : (a b : Told) → ProperTold a → ProperTold b → status_of a ≡ status_of b → a ≡ b
-told_test (Of r) (Of s) p q e = ap Of (ap (λ (x : Status). x.router) e)
-told_test (Of r) (ToldRefused n) p q e = absurd (q (sym (ap (λ (x : Status). x.number) e)))
-told_test (ToldRefused n) (Of s) p q e = absurd (p (ap (λ (x : Status). x.number) e))
-told_test (ToldRefused n) (ToldRefused m) p q e = ap ToldRefused (ap (λ (x : Status). x.number) e)
+told_test (Ok r) (Ok s) p q e = ap Ok (ap (λ (x : Status). x.router) e)
+told_test (Ok r) (Err n) p q e = absurd (nonzero n (sym (ap (λ (x : Status). x.number) e)))
+told_test (Err n) (Ok s) p q e = absurd (nonzero n (ap (λ (x : Status). x.number) e))
+told_test (Err n) (Err m) p q e = ap Err (same_refusal n m (ap (λ (x : Status). x.number) e) (p ∙ sym q))
 
 pub one_status : OneStatus
 one_status status a b x y = told_test a b x.proper y.proper (x.status_is ∙ sym y.status_is)
@@ -97,23 +84,23 @@ acted_elsewhere words lists p o leftover room q n =
     either_elsewhere (ltb (length room) (need_of o.writes (4 * o.router.count))) _ _ words q refl
     (beside_record p words _ (event_beside words p o.router) q n)
 
-happened_elsewhere : (f : Found) (words lists : List ℕ) (q : ℕ) (e : Event) (room : List ℕ) → (f ≡ At q → ⊥)
+happened_elsewhere : (f : Found) (words lists : List ℕ) (q : ℕ) (e : Event) (room : List ℕ) → (f ≡ Some q → ⊥)
     → record_at (happened_at f words lists e room).words q ≡ record_at words q
-happened_elsewhere Nothing words lists q e room n = refl
-happened_elsewhere (At p) words lists q e room n =
-    acted_elsewhere words lists p (step_of (primary_of words) (record_at words p) e) 0 room q (λ z. n (ap At (sym z)))
+happened_elsewhere None words lists q e room n = refl
+happened_elsewhere (Some p) words lists q e room n =
+    acted_elsewhere words lists p (step_of (primary_of words) (record_at words p) e) 0 room q (λ z. n (ap Some (sym z)))
 
 pub event_elsewhere : EventElsewhere
 unfolding happened_of
 event_elsewhere words lists v q e room n = happened_elsewhere (router_place words v) words lists q e room n
 
-clocked_elsewhere : (f : Found) (words lists : List ℕ) (q d : ℕ) (room : List ℕ) → (f ≡ At q → ⊥)
+clocked_elsewhere : (f : Found) (words lists : List ℕ) (q d : ℕ) (room : List ℕ) → (f ≡ Some q → ⊥)
     → record_at (clocked_at f words lists d room).words q ≡ record_at words q
-clocked_elsewhere Nothing words lists q d room n = refl
-clocked_elsewhere (At p) words lists q d room n =
+clocked_elsewhere None words lists q d room n = refl
+clocked_elsewhere (Some p) words lists q d room n =
     acted_elsewhere words lists p (ticked_of (primary_of words) (record_at words p) d).outcome
     (ticked_of (primary_of words) (record_at words p) d).leftover
-    room q (λ z. n (ap At (sym z)))
+    room q (λ z. n (ap Some (sym z)))
 
 pub clock_elsewhere : ClockElsewhere
 unfolding clocked_of
@@ -132,19 +119,19 @@ counted_elsewhere false words lists bytes p f room q n e =
     let range = refused_range words lists bytes p f number refl (eqb-false number 0 e) in
     beside_record p words _ (count_beside words p number range.0 range.1) q n
 
-pub heard_elsewhere : (f : Found) (words lists bytes : List ℕ) (fields : Fields) (room : List ℕ) (q : ℕ) → (f ≡ At q → ⊥)
+pub heard_elsewhere : (f : Found) (words lists bytes : List ℕ) (fields : Fields) (room : List ℕ) (q : ℕ) → (f ≡ Some q → ⊥)
     → record_at (sought_at f words lists bytes fields room).words q ≡ record_at words q
-heard_elsewhere Nothing words lists bytes fields room q n = count_record words 9 (omega arith) q
-heard_elsewhere (At p) words lists bytes fields room q n =
+heard_elsewhere None words lists bytes fields room q n = count_record words 9 (omega arith) q
+heard_elsewhere (Some p) words lists bytes fields room q n =
     counted_elsewhere (eqb (refusal_at words lists p bytes fields) 0) words lists bytes p fields room q
-    (λ z. n (ap At (sym z))) refl
+    (λ z. n (ap Some (sym z))) refl
 
 judged_elsewhere : (j : Judged) (words lists bytes room : List ℕ) (q : ℕ) → judged_of bytes ≡ j
-    → ((fields : Fields) → j ≡ Accepted fields → router_place words fields.vrid ≡ At q → ⊥)
+    → ((fields : Fields) → j ≡ Ok fields → router_place words fields.vrid ≡ Some q → ⊥)
     → record_at (judged_at j words lists bytes room).words q ≡ record_at words q
-judged_elsewhere (Refused number) words lists bytes room q e n =
+judged_elsewhere (Err number) words lists bytes room q e n =
     count_record words number (omega (arith, refused_most bytes number (sym e))) q
-judged_elsewhere (Accepted fields) words lists bytes room q e n =
+judged_elsewhere (Ok fields) words lists bytes room q e n =
     heard_elsewhere (router_place words fields.vrid) words lists bytes fields room q (n fields refl)
 
 pub packet_elsewhere : PacketElsewhere
@@ -152,13 +139,13 @@ unfolding heard_of
 packet_elsewhere words lists bytes room q n = judged_elsewhere (judged_of bytes) words lists bytes room q refl n
 
 -- a record put at a place that was found, where nothing is refused
-put_elsewhere : (t : Bool) (f : Found) (words : List ℕ) (r : Router) (q : ℕ) → ((p : ℕ) → f ≡ At p → p < 255)
-    → (t ≡ true → f ≡ Nothing → ⊥) → length words ≡ 4096 → (f ≡ At q → ⊥)
+put_elsewhere : (t : Bool) (f : Found) (words : List ℕ) (r : Router) (q : ℕ) → ((p : ℕ) → f ≡ Some p → p < 255)
+    → (t ≡ true → f ≡ None → ⊥) → length words ≡ 4096 → (f ≡ Some q → ⊥)
     → record_at (cond t (set_record words (place_in f) r) words) q ≡ record_at words q
 put_elsewhere false f words r q below there long n = refl
-put_elsewhere true Nothing words r q below there long n = absurd (there refl refl)
-put_elsewhere true (At p) words r q below there long n =
-    record_other words p r (below p refl) long q (λ z. n (ap At (sym z)))
+put_elsewhere true None words r q below there long n = absurd (there refl refl)
+put_elsewhere true (Some p) words r q below there long n =
+    record_other words p r (below p refl) long q (λ z. n (ap Some (sym z)))
 
 pub configure_elsewhere : ConfigureElsewhere
 configure_elsewhere words v priority interval preempt addresses q long n =
@@ -176,13 +163,13 @@ list_other lists addresses p q n long below most few e =
     part_other lists addresses (64 * p) (length addresses) (64 * q) (4 * n) (omega arith) refl
     (⊎_elim (λ x. inl (omega arith)) (λ x. inr (omega arith)) (apart q p e))
 
-put_list_elsewhere : (t : Bool) (f : Found) (lists addresses : List ℕ) (q n : ℕ) → ((p : ℕ) → f ≡ At p → p < 255)
-    → (t ≡ true → (f ≡ Nothing → ⊥) × (length addresses ≤ 64)) → length lists ≡ 16320 → n ≤ 16 → (f ≡ At q → ⊥)
+put_list_elsewhere : (t : Bool) (f : Found) (lists addresses : List ℕ) (q n : ℕ) → ((p : ℕ) → f ≡ Some p → p < 255)
+    → (t ≡ true → (f ≡ None → ⊥) × (length addresses ≤ 64)) → length lists ≡ 16320 → n ≤ 16 → (f ≡ Some q → ⊥)
     → list_at (cond t (set_list lists (place_in f) addresses) lists) q n ≡ list_at lists q n
 put_list_elsewhere false f lists addresses q n below good long few e = refl
-put_list_elsewhere true Nothing lists addresses q n below good long few e = absurd ((good refl).0 refl)
-put_list_elsewhere true (At p) lists addresses q n below good long few e =
-    list_other lists addresses p q n long (below p refl) (good refl).1 few (λ z. e (ap At (sym z)))
+put_list_elsewhere true None lists addresses q n below good long few e = absurd ((good refl).0 refl)
+put_list_elsewhere true (Some p) lists addresses q n below good long few e =
+    list_other lists addresses p q n long (below p refl) (good refl).1 few (λ z. e (ap Some (sym z)))
 
 pub list_elsewhere : ListElsewhere
 list_elsewhere words lists v priority interval addresses q n long few e =

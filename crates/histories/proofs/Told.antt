@@ -10,14 +10,11 @@ use lib.Dec.{eqb}
 use lib.ListN.{get_or}
 use borrow.Author.Tests.{eq-eqb, ne_eqb, eqb-true, eqb-false}
 use Rattle.judging.specs.declared.Fields.{Fields}
-use Rattle.judging.specs.declared.Judged.{Judged}
-use Rattle.judging.specs.declared.Judged.TheVariants.{Accepted, Refused}
-use Rattle.judging.specs.Judging.{judged_of}
+use Rattle.judging.specs.Judging.{Judged, judged_of}
+use Rattle.std.specs.Prelude.{Ok, Err, Some, None}
 use Rattle.states.specs.declared.record.Counts.{Counts}
 use Rattle.states.specs.declared.record.Router.{Router}
-use Rattle.places.specs.declared.place.Found.{Found}
-use Rattle.places.specs.declared.place.Found.TheVariants.{At, Nothing}
-use Rattle.places.specs.Place.{base_of, record_at, set_record, place_of}
+use Rattle.places.specs.Place.{Found, base_of, record_at, set_record, place_of}
 use Rattle.places.proofs.Beside.{beside_first}
 use Rattle.places.proofs.Finding.{found}
 use Rattle.places.proofs.Words.{first_same, first_other, count_first}
@@ -43,22 +40,22 @@ use Rattle.histories.proofs.Stays.{same_router, stored_test, new_number_lem}
 use Rattle.histories.proofs.Tallied.{Bumps, tally_test, call_follows}
 
 -- what a question tells, by where the router stands
-asked_at_lem : (words : List ℕ) (v p : ℕ) → router_place words v ≡ At p → (asked_of words v).router ≡ record_at words p
+asked_at_lem : (words : List ℕ) (v p : ℕ) → router_place words v ≡ Some p → (asked_of words v).router ≡ record_at words p
 unfolding asked_of
 asked_at_lem words v p e = ap (λ (f : Found). (asked_at f words).router) e
 
-asked_nowhere : (words : List ℕ) (v : ℕ) → router_place words v ≡ Nothing → (asked_of words v).router ≡ no_router
+asked_nowhere : (words : List ℕ) (v : ℕ) → router_place words v ≡ None → (asked_of words v).router ≡ no_router
 unfolding asked_of
 asked_nowhere words v e = ap (λ (f : Found). (asked_at f words).router) e
 
 -- a place has the number of one virtual router
-module _ (words : List ℕ) (v p : ℕ) (at : router_place words v ≡ At p) where
+module _ (words : List ℕ) (v p : ℕ) (at : router_place words v ≡ Some p) where
   number : get_or words (base_of p) 0 ≡ v
   number = (sought_word words v p at).1
 
   place_test : (f : Found) (u : ℕ) → router_place words u ≡ f → ¬ (u ≡ v) → is_at f p ≡ false
-  place_test Nothing u s n = refl
-  place_test (At q) u s n =
+  place_test None u s n = refl
+  place_test (Some q) u s n =
       ne_eqb q p (λ z. n (sym (sought_word words u q s).1 ∙ ap (λ (k : ℕ). get_or words (base_of k) 0) z ∙ number))
 
   for_test : (t : Bool) (u : ℕ) → eqb u v ≡ t → is_at (router_place words u) p ≡ t
@@ -70,18 +67,18 @@ module _ (words : List ℕ) (v p : ℕ) (at : router_place words v ≡ At p) whe
 
   -- a packet is for the router at the place exactly where it carries its number
   for_it : (j : Judged) → is_at (addressee words j) p ≡ is_for v j
-  for_it (Refused n) = refl
-  for_it (Accepted fields) = for_test (eqb fields.vrid v) fields.vrid refl
+  for_it (Err n) = refl
+  for_it (Ok fields) = for_test (eqb fields.vrid v) fields.vrid refl
 
   free_test : (f : Found) → place_of words 0 ≡ f → is_at f p ≡ false
-  free_test Nothing s = refl
-  free_test (At q) s =
+  free_test None s = refl
+  free_test (Some q) s =
       ne_eqb q p
       (λ z. (sought_word words v p at).2 (sym number ∙ ap (λ (k : ℕ). get_or words (base_of k) 0) (sym z) ∙ (found words 0 q s).word))
 
 module _ (v : ℕ) where
   -- there is no virtual router 0
-  no_zero : (words : List ℕ) → eqb v 0 ≡ true → router_place words v ≡ Nothing
+  no_zero : (words : List ℕ) → eqb v 0 ≡ true → router_place words v ≡ None
   unfolding router_place
   no_zero words e = rw e
 
@@ -107,7 +104,7 @@ module _ (v : ℕ) where
       e)
 
   -- in the table before and after
-  module _ (m : Memory) (held : Held m.words) (p : ℕ) (at : router_place m.words v ≡ At p) where
+  module _ (m : Memory) (held : Held m.words) (p : ℕ) (at : router_place m.words v ≡ Some p) where
     heard_same : (call : Call) (n : ℕ) → hears p m call n ≡ hears_by v m call n
     heard_same (configure u priority interval preempt addresses) n = refl
     heard_same (remove u) n = refl
@@ -181,9 +178,9 @@ module _ (v : ℕ) where
         (begun_here call n) follows)
 
     -- removed: it is found nowhere
-    removed_test : (f : Found) → router_place (set_record m.words p freed) v ≡ f → f ≡ Nothing
-    removed_test Nothing s = refl
-    removed_test (At q) s = absurd (other (same_or_not q p))
+    removed_test : (f : Found) → router_place (set_record m.words p freed) v ≡ f → f ≡ None
+    removed_test None s = refl
+    removed_test (Some q) s = absurd (other (same_or_not q p))
       where
         below : p < 255
         below = sought_below m.words v p at
@@ -206,7 +203,7 @@ module _ (v : ℕ) where
     gone_told false t u e f n = absurd (let z : ◌≡◌ {A = ℕ} 0 1 = cc in omega arith)
     gone_told true false u e f n = absurd (let z : ◌≡◌ {A = ℕ} 0 1 = cc in omega arith)
     gone_told true true u e f n =
-        let there : router_place m.words u ≡ At p = ap (router_place m.words) (eqb-true u v e) ∙ at in
+        let there : router_place m.words u ≡ Some p = ap (router_place m.words) (eqb-true u v e) ∙ at in
         let words : (called m (remove u)).words ≡ set_record m.words p freed = rw (f, there) in
         ap told words
         ∙ ap (λ (r : Router). r.counts)
@@ -223,8 +220,8 @@ module _ (v : ℕ) where
     here_test true (packet bytes room) g e = absurd (let z : ◌≡◌ {A = ℕ} 0 1 = cc in omega arith)
 
   -- not in the table
-  module _ (m : Memory) (held : Held m.words) (nowhere : router_place m.words v ≡ Nothing) where
-    moved_nowhere : (w : List ℕ) → Moves m.words w → router_place w v ≡ Nothing
+  module _ (m : Memory) (held : Held m.words) (nowhere : router_place m.words v ≡ None) where
+    moved_nowhere : (w : List ℕ) → Moves m.words w → router_place w v ≡ None
     moved_nowhere w same = nowhere
     moved_nowhere w (counts n least most) =
         same_router w m.words v (λ q. ap (λ (x : ℕ). eqb x v) (count_first m.words n most q)) ∙ nowhere
@@ -233,19 +230,19 @@ module _ (v : ℕ) where
 
     -- storing a record for another virtual router, or for none
     stored_nowhere : (q : ℕ) (r : Router) → q < 255 → ¬ (r.vrid ≡ v) → ¬ (get_or m.words (base_of q) 0 ≡ v)
-        → router_place (set_record m.words q r) v ≡ Nothing
+        → router_place (set_record m.words q r) v ≡ None
     stored_nowhere q r below new old =
         same_router (set_record m.words q r) m.words v
         (λ k. stored_test m.words q r v below held.long new old k (same_or_not k q))
         ∙ nowhere
 
     -- a packet for it is refused by 9
-    nine : (bytes room : List ℕ) (f : Fields) → judged_of bytes ≡ Accepted f → f.vrid ≡ v
+    nine : (bytes room : List ℕ) (f : Fields) → judged_of bytes ≡ Ok f → f.vrid ≡ v
         → (heard_of m.words m.lists bytes room).answer.number ≡ 9
     unfolding heard_of
     nine bytes room f e z = rw (e, z, nowhere)
 
-    unheard_test : (t : Bool) (bytes room : List ℕ) (f : Fields) (n : ℕ) → judged_of bytes ≡ Accepted f → eqb f.vrid v ≡ t
+    unheard_test : (t : Bool) (bytes room : List ℕ) (f : Fields) (n : ℕ) → judged_of bytes ≡ Ok f → eqb f.vrid v ≡ t
         → ¬ (9 ≡ n) → (t && eqb (heard_of m.words m.lists bytes room).answer.number n) ≡ false
     unheard_test false bytes room f n e z other = refl
     unheard_test true bytes room f n e z other =
@@ -253,8 +250,8 @@ module _ (v : ℕ) where
 
     unheard_judged : (j : Judged) (bytes room : List ℕ) (n : ℕ) → judged_of bytes ≡ j → ¬ (9 ≡ n)
         → (is_for v j && eqb (heard_of m.words m.lists bytes room).answer.number n) ≡ false
-    unheard_judged (Refused k) bytes room n e other = refl
-    unheard_judged (Accepted f) bytes room n e other = unheard_test (eqb f.vrid v) bytes room f n e refl other
+    unheard_judged (Err k) bytes room n e other = refl
+    unheard_judged (Ok f) bytes room n e other = unheard_test (eqb f.vrid v) bytes room f n e refl other
 
     unheard : (call : Call) (n : ℕ) → ¬ (9 ≡ n) → hears_by v m call n ≡ false
     unheard (configure u priority interval preempt addresses) n other = refl
@@ -265,7 +262,7 @@ module _ (v : ℕ) where
     unheard (packet bytes room) n other = unheard_judged (judged_of bytes) bytes room n refl other
 
     -- it is still not in the table
-    nowhere_told : (call : Call) → begins_by v m call ≡ false → router_place (called m call).words v ≡ Nothing → FollowsBy m call
+    nowhere_told : (call : Call) → begins_by v m call ≡ false → router_place (called m call).words v ≡ None → FollowsBy m call
     nowhere_told call begins gone =
         let before = asked_nowhere m.words v nowhere in
         let later = asked_nowhere (called m call).words v gone in
@@ -292,9 +289,9 @@ module _ (v : ℕ) where
         → Given (configure u priority interval preempt addresses)
         → u ≡ v → configure_refusal m.words u priority interval addresses ≡ 0 → (f : Found) → place_of m.words 0 ≡ f
         → told (called m (configure u priority interval preempt addresses)).words ≡ no_counts
-    fresh_told u priority interval preempt addresses g z none Nothing s =
+    fresh_told u priority interval preempt addresses g z none None s =
         absurd (never_full m.words u priority interval addresses none s)
-    fresh_told u priority interval preempt addresses g z none (At p) s =
+    fresh_told u priority interval preempt addresses g z none (Some p) s =
         let fresh = fresh_at m held u priority interval preempt addresses g none p s in
         let w = (called m (configure u priority interval preempt addresses)).words in
         ap (λ (k : ℕ). (asked_of w k).router.counts) (sym z)
@@ -302,10 +299,10 @@ module _ (v : ℕ) where
 
     other_nowhere : (u priority interval : ℕ) (preempt : Bool) (addresses : List ℕ) → ¬ (u ≡ v) → ¬ (v ≡ 0)
         → configure_refusal m.words u priority interval addresses ≡ 0 → (f : Found) → place_of m.words 0 ≡ f
-        → router_place (called m (configure u priority interval preempt addresses)).words v ≡ Nothing
-    other_nowhere u priority interval preempt addresses n some none Nothing s =
+        → router_place (called m (configure u priority interval preempt addresses)).words v ≡ None
+    other_nowhere u priority interval preempt addresses n some none None s =
         absurd (never_full m.words u priority interval addresses none s)
-    other_nowhere u priority interval preempt addresses n some none (At p) s =
+    other_nowhere u priority interval preempt addresses n some none (Some p) s =
         let free = found m.words 0 p s in
         rw (none, s) (stored_nowhere p _ (omega (arith, free.below)) n (λ z. some (sym z ∙ free.word)))
 
@@ -327,12 +324,12 @@ module _ (v : ℕ) where
         (eqb-true (configure_refusal m.words u priority interval addresses) 0 b) (place_of m.words 0) refl)
 
     -- removing another one
-    apart : {q : ℕ} → At q ≡ Nothing → ⊥
+    apart : {q : ℕ} → Some q ≡ None → ⊥
     apart e = let z : ◌≡◌ {A = ℕ} 0 1 = cc in omega arith
 
-    gone : (q u : ℕ) → router_place m.words u ≡ At q → eqb (remove_refusal m.words u) 0 ≡ true → ¬ (u ≡ v)
+    gone : (q u : ℕ) → router_place m.words u ≡ Some q → eqb (remove_refusal m.words u) 0 ≡ true → ¬ (u ≡ v)
         → (z : Bool) → eqb v 0 ≡ z
-        → router_place (called m (remove u)).words v ≡ Nothing
+        → router_place (called m (remove u)).words v ≡ None
     gone q u s e other true c = no_zero _ c
     gone q u s e other false c =
         let there = sought_word m.words u q s in
@@ -343,8 +340,8 @@ module _ (v : ℕ) where
         → FollowsBy m (remove u)
     removed_told false f u e s =
         nowhere_told (remove u) (rw e (and_false (eqb u v))) (rw e nowhere)
-    removed_told true Nothing u e s = absurd (never_unknown m.words u (eqb-true (remove_refusal m.words u) 0 e) s)
-    removed_told true (At q) u e s =
+    removed_told true None u e s = absurd (never_unknown m.words u (eqb-true (remove_refusal m.words u) 0 e) s)
+    removed_told true (Some q) u e s =
         let there = sought_word m.words u q s in
         let other : ¬ (u ≡ v) = λ z. apart (sym s ∙ ap (router_place m.words) z ∙ nowhere) in
         nowhere_told (remove u) (rw (ne_eqb u v other)) (gone q u s e other (eqb v 0) refl)
@@ -361,8 +358,8 @@ module _ (v : ℕ) where
 
   call_test : (f : Found) (m : Memory) → Held m.words → router_place m.words v ≡ f → (call : Call) → Given call
       → FollowsBy m call
-  call_test (At p) m held s call g = here_test m held p s (removes v m call) call g refl
-  call_test Nothing m held s call g = there_told m held s call g
+  call_test (Some p) m held s call g = here_test m held p s (removes v m call) call g refl
+  call_test None m held s call g = there_told m held s call g
 
   history_told : (m : Memory) (history : List Call) (n : Counts) → GivenAll history → Held m.words
       → told m.words ≡ modulo n → told (after m history).words ≡ modulo (tally_by v m history n)
@@ -380,8 +377,8 @@ module _ (v : ℕ) where
 -- of an empty table a question tells no counts
 empty_told : (f : Found) (primary v : ℕ) → router_place (empty_of primary) v ≡ f
     → (asked_of (empty_of primary) v).router.counts ≡ no_counts
-empty_told Nothing primary v s = ap (λ (r : Router). r.counts) (asked_nowhere (empty_of primary) v s)
-empty_told (At p) primary v s =
+empty_told None primary v s = ap (λ (r : Router). r.counts) (asked_nowhere (empty_of primary) v s)
+empty_told (Some p) primary v s =
     ap (λ (r : Router). r.counts)
     (asked_at_lem (empty_of primary) v p s ∙ empty_record primary p (sought_below (empty_of primary) v p s))
 

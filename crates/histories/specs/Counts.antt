@@ -1,14 +1,10 @@
 -- The counts of a virtual router over a history (01, 'Counts').
-use Rattle.std.specs.Prelude.{ℕ, ◌+◌, ◌%◌, ◌^◌, List, [], ◌∷◌, Bool, true, false, cond, not, ◌&&◌, eqb}
-use Rattle.judging.specs.declared.Judged.{Judged}
-use Rattle.judging.specs.declared.Judged.TheVariants.{Accepted, Refused}
-use Rattle.judging.specs.Judging.{judged_of}
+use Rattle.std.specs.Prelude.{ℕ, ◌+◌, ◌%◌, ◌^◌, List, [], ◌∷◌, Bool, true, false, cond, not, ◌&&◌, eqb, Some, None, Ok, Err}
+use Rattle.judging.specs.Judging.{Judged, judged_of}
 use Rattle.states.specs.declared.record.State.{State}
 use Rattle.states.specs.declared.record.State.TheVariants.{Initialize, Backup, Master}
 use Rattle.states.specs.declared.record.Counts.{Counts}
-use Rattle.places.specs.declared.place.Found.{Found}
-use Rattle.places.specs.declared.place.Found.TheVariants.{At, Nothing}
-use Rattle.places.specs.Place.{record_at, place_of}
+use Rattle.places.specs.Place.{Found, record_at, place_of}
 use Rattle.events.specs.Result.{router_place}
 use Rattle.events.specs.Events.{asked_of}
 use Rattle.configuring.specs.Configuring.{no_counts, configure_refusal, remove_refusal}
@@ -26,13 +22,13 @@ becomes before after = not (is_master before) && is_master after
 
 -- whether what was found is this place
 abbrev pub is_at : Found → ℕ → Bool
-is_at Nothing place = false
-is_at (At found) place = eqb found place
+is_at None place = false
+is_at (Some found) place = eqb found place
 
 -- the place of the router that a packet is for
 abbrev pub addressee : List ℕ → Judged → Found
-addressee words (Refused number) = Nothing
-addressee words (Accepted fields) = router_place words fields.vrid
+addressee words (Err number) = None
+addressee words (Ok fields) = router_place words fields.vrid
 
 -- whether a call is a packet for the router at a place, answered by this number; 0 is "accepted"
 abbrev pub hears : ℕ → Memory → Call → ℕ → Bool
@@ -97,8 +93,8 @@ modulo n =
 
 -- whether a judged packet is for a virtual router
 abbrev pub is_for : ℕ → Judged → Bool
-is_for vrid (Refused number) = false
-is_for vrid (Accepted fields) = eqb fields.vrid vrid
+is_for vrid (Err number) = false
+is_for vrid (Ok fields) = eqb fields.vrid vrid
 
 -- whether a call is a packet for a virtual router, answered by this number; 0 is "accepted"
 abbrev pub hears_by : ℕ → Memory → Call → ℕ → Bool

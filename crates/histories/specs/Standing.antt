@@ -1,6 +1,5 @@
 -- What was configured, and which calls remove it (01, 'The table').
-use Rattle.std.specs.Prelude.{ℕ, ◌/◌, ◌≡◌, List, [], ◌∷◌, Bool, false, ◌&&◌, eqb, length}
-use Rattle.places.specs.declared.place.Found.TheVariants.{At}
+use Rattle.std.specs.Prelude.{ℕ, ◌/◌, ◌≡◌, List, [], ◌∷◌, Bool, false, ◌&&◌, eqb, length, Some}
 use Rattle.places.specs.Place.{record_at}
 use Rattle.events.specs.Lists.{list_at}
 use Rattle.events.specs.Result.{router_place}
@@ -10,7 +9,7 @@ use Rattle.histories.specs.Histories.{Call, configure, remove, startup, shutdown
 -- a virtual router stands in the table as it was configured
 pub record Standing (m : Memory) (vrid priority interval : ℕ) (preempt : Bool) (addresses : List ℕ) : Type 0 where
   pub place : ℕ
-  pub found : router_place m.words vrid ≡ At place
+  pub found : router_place m.words vrid ≡ Some place
   pub priority_is : (record_at m.words place).priority ≡ priority
   pub interval_is : (record_at m.words place).interval ≡ interval
   pub preempt_is : (record_at m.words place).preempt ≡ preempt

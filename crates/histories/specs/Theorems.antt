@@ -2,23 +2,19 @@
 -- the answers in proofs/Rows.antt, of what a refusal changes in proofs/Kept.antt and a call that is done in Done.antt, of what
 -- holds after every history in proofs/Histories.antt, Stays.antt and Standing.antt, and of counts in proofs/Counted.antt,
 -- Tallied.antt and Told.antt.
-use Rattle.std.specs.Prelude.{ℕ, ◌+◌, ◌-◌, ◌%◌, ◌^◌, ◌≤◌, ◌<◌, ◌≡◌, ◌↔◌, List, [], ◌∷◌, Bool, length, get_or, set}
+use Rattle.std.specs.Prelude.{ℕ, ◌+◌, ◌-◌, ◌%◌, ◌^◌, ◌≤◌, ◌<◌, ◌≡◌, ◌↔◌, List, [], ◌∷◌, Bool, length, get_or, set, Some, None, Ok}
 use Rattle.wire.specs.Check.{first_refusal, Passes}
 use Rattle.judging.specs.declared.Fields.{Fields}
-use Rattle.judging.specs.declared.Judged.TheVariants.{Accepted}
 use Rattle.judging.specs.Judging.{judged_of}
 use Rattle.states.specs.declared.record.State.TheVariants.{Initialize}
 use Rattle.states.specs.declared.step.Event.{Event}
 use Rattle.states.specs.Step.{counted, stays, step_of}
-use Rattle.places.specs.declared.place.Found.TheVariants.{At, Nothing}
 use Rattle.places.specs.Place.{base_of, primary_of, record_at, place_of}
-use Rattle.events.specs.declared.answer.Answered.{Answered}
-use Rattle.events.specs.declared.answer.Told.{Told}
 use Rattle.events.specs.Lists.{list_at}
-use Rattle.events.specs.Result.{Result, Leaves, router_place}
+use Rattle.events.specs.Result.{Answered, Result, Leaves, router_place}
 use Rattle.configuring.specs.Configuring.{no_counts, Configured, configured_words, configured_lists, Removed, removed_words}
 use Rattle.configuring.specs.Configuring.{configure_checks, configure_refusal, remove_checks, remove_refusal}
-use Rattle.events.specs.Events.{happened_of, clocked_of, Status, asked_of, Tells, interface_count}
+use Rattle.events.specs.Events.{happened_of, clocked_of, Status, Told, asked_of, Tells, interface_count}
 use Rattle.packets.specs.Packets.{heard_of}
 use Rattle.histories.specs.Histories.{Call, configure, called, after, begun, Given, GivenAll, Unique, Sound, refusals_in}
 use Rattle.histories.specs.Standing.{Standing, NotRemoved}
@@ -56,41 +52,41 @@ OneRemoving =
 abbrev pub EventElsewhere : Type 0
 EventElsewhere =
     (words lists : List ℕ) (vrid place : ℕ) (event : Event) (room : List ℕ)
-    → (router_place words vrid ≡ At place → ⊥)
+    → (router_place words vrid ≡ Some place → ⊥)
     → record_at (happened_of words lists vrid event room).words place ≡ record_at words place
 
 -- and a clock step
 abbrev pub ClockElsewhere : Type 0
 ClockElsewhere =
     (words lists : List ℕ) (vrid place ticks : ℕ) (room : List ℕ)
-    → (router_place words vrid ≡ At place → ⊥)
+    → (router_place words vrid ≡ Some place → ⊥)
     → record_at (clocked_of words lists vrid ticks room).words place ≡ record_at words place
 
 -- and a packet: every place but that of the VRID it carries
 abbrev pub PacketElsewhere : Type 0
 PacketElsewhere =
     (words lists bytes room : List ℕ) (place : ℕ)
-    → ((fields : Fields) → judged_of bytes ≡ Accepted fields → router_place words fields.vrid ≡ At place → ⊥)
+    → ((fields : Fields) → judged_of bytes ≡ Ok fields → router_place words fields.vrid ≡ Some place → ⊥)
     → record_at (heard_of words lists bytes room).words place ≡ record_at words place
 
 -- and configuring: every place but the free one that it takes
 abbrev pub ConfigureElsewhere : Type 0
 ConfigureElsewhere =
     (words : List ℕ) (vrid priority interval : ℕ) (preempt : Bool) (addresses : List ℕ) (place : ℕ) → length words ≡ 4096
-    → (place_of words 0 ≡ At place → ⊥)
+    → (place_of words 0 ≡ Some place → ⊥)
     → record_at (configured_words words vrid priority interval preempt addresses) place ≡ record_at words place
 
 -- and every other address list
 abbrev pub ListElsewhere : Type 0
 ListElsewhere =
     (words lists : List ℕ) (vrid priority interval : ℕ) (addresses : List ℕ) (place n : ℕ) → length lists ≡ 16320 → n ≤ 16
-    → (place_of words 0 ≡ At place → ⊥)
+    → (place_of words 0 ≡ Some place → ⊥)
     → list_at (configured_lists words lists vrid priority interval addresses) place n ≡ list_at lists place n
 
 -- and removing
 abbrev pub RemoveElsewhere : Type 0
 RemoveElsewhere =
-    (words : List ℕ) (vrid place : ℕ) → length words ≡ 4096 → (router_place words vrid ≡ At place → ⊥)
+    (words : List ℕ) (vrid place : ℕ) → length words ≡ 4096 → (router_place words vrid ≡ Some place → ⊥)
     → record_at (removed_words words vrid) place ≡ record_at words place
 
 -- free is a place whose first word is 0
@@ -100,12 +96,12 @@ Free words place = get_or words (base_of place) 0 ≡ 0
 -- "Configuring takes the lowest free place"
 abbrev pub LowestFreePlace : Type 0
 LowestFreePlace =
-    (words : List ℕ) (place : ℕ) → place_of words 0 ≡ At place
+    (words : List ℕ) (place : ℕ) → place_of words 0 ≡ Some place
     → (place < 255) × Free words place × ((other : ℕ) → other < place → Free words other → ⊥)
 
 -- "19 no free place": where none is found, there is none
 abbrev pub NoFreePlace : Type 0
-NoFreePlace = (words : List ℕ) → place_of words 0 ≡ Nothing → (place : ℕ) → place < 255 → ¬ Free words place
+NoFreePlace = (words : List ℕ) → place_of words 0 ≡ None → (place : ℕ) → place < 255 → ¬ Free words place
 
 -- after every history of calls from an empty table: VRIDs are unique, and every place is sound
 abbrev pub AfterEveryHistory : Type 0
@@ -337,20 +333,20 @@ ClockChanges =
 -- "Startup outside Initialize, shutdown in Initialize .. change no state or timer": no word at all
 abbrev pub NothingHappens : Type 0
 NothingHappens =
-    (words lists : List ℕ) (vrid place : ℕ) (event : Event) (room : List ℕ) → router_place words vrid ≡ At place
+    (words lists : List ℕ) (vrid place : ℕ) (event : Event) (room : List ℕ) → router_place words vrid ≡ Some place
     → step_of (primary_of words) (record_at words place) event ≡ stays (record_at words place)
     → (happened_of words lists vrid event room).words ≡ words
 
 -- "In Initialize nothing happens": a clock step changes no word
 abbrev pub ClockInInitialize : Type 0
 ClockInInitialize =
-    (words lists : List ℕ) (vrid place ticks : ℕ) (room : List ℕ) → router_place words vrid ≡ At place
+    (words lists : List ℕ) (vrid place ticks : ℕ) (room : List ℕ) → router_place words vrid ≡ Some place
     → (record_at words place).state ≡ Initialize → (clocked_of words lists vrid ticks room).words ≡ words
 
 -- "if d is below the remaining time, that falls by d": the timer's word alone
 abbrev pub TimerFalls : Type 0
 TimerFalls =
-    (words lists : List ℕ) (vrid ticks place : ℕ) (room : List ℕ) → router_place words vrid ≡ At place
+    (words lists : List ℕ) (vrid ticks place : ℕ) (room : List ℕ) → router_place words vrid ≡ Some place
     → ¬ ((record_at words place).state ≡ Initialize) → ticks < (record_at words place).timer
     → (clocked_of words lists vrid ticks room).words ≡ set words (base_of place + 5) ((record_at words place).timer - ticks)
 

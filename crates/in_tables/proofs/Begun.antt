@@ -11,10 +11,9 @@ use lib.ListN.{length, get_or, drop, replicate, length-append, length-drop, repl
 use lib.Seq.{take_all, drop-append-le}
 use borrow.Author.Tests.{ne_eqb, eqb-true, eqb-false}
 use Rattle.states.specs.declared.record.Router.{Router}
-use Rattle.places.specs.declared.place.Found.{Found}
-use Rattle.places.specs.declared.place.Found.TheVariants.{At, Nothing}
+use Rattle.places.specs.Place.{Found, base_of, set_record, place_of}
+use Rattle.std.specs.Prelude.{Some, None}
 use Rattle.places.specs.Layout.{encode_of}
-use Rattle.places.specs.Place.{base_of, set_record, place_of}
 use Rattle.places.proofs.Finding.{find_hit, found}
 use Rattle.events.specs.declared.answer.Answered.TheVariants.{Done, Refused}
 use Rattle.events.specs.Lists.{set_list}
@@ -67,13 +66,13 @@ module _ (primary : ℕ) where
   free_word : (p : ℕ) → p < 255 → get_or (empty_of primary) (base_of p) 0 ≡ 0
   free_word p h = ((empty_held primary).sound p h).named ∙ ap (λ (r : Router). r.vrid) (empty_record primary p h)
 
-  first_free : place_of (empty_of primary) 0 ≡ At 0
+  first_free : place_of (empty_of primary) 0 ≡ Some 0
   unfolding place_of
   first_free = find_hit (empty_of primary) 0 0 (omega arith) (free_word 0 (omega arith))
 
-  none_there : (f : Found) (v : ℕ) → ¬ (v ≡ 0) → place_of (empty_of primary) v ≡ f → f ≡ Nothing
-  none_there Nothing v n e = refl
-  none_there (At p) v n e =
+  none_there : (f : Found) (v : ℕ) → ¬ (v ≡ 0) → place_of (empty_of primary) v ≡ f → f ≡ None
+  none_there None v n e = refl
+  none_there (Some p) v n e =
       let l = found (empty_of primary) v p e in
       let below : p < 255 = omega (arith, l.below) in
       absurd (n (sym l.word ∙ free_word p below))

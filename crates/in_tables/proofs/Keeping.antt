@@ -9,10 +9,9 @@ use lib.Dec.{eqb, ltb}
 use lib.ListN.{length, take, drop}
 use lib.Seq.{length-take-le, take-append_seam, take-append-le}
 use borrow.Author.Tests.{eqb-true, eqb-false}
-use Rattle.judging.specs.declared.Judged.{Judged}
-use Rattle.judging.specs.declared.Judged.TheVariants.{Accepted, Refused}
+use Rattle.judging.specs.Judging.{Judged, judged_of}
+use Rattle.std.specs.Prelude.{Ok, Err}
 use Rattle.writing.specs.Writing.{over}
-use Rattle.judging.specs.Judging.{judged_of}
 use Rattle.states.specs.declared.step.Outcome.{Outcome}
 use Rattle.states.specs.Step.{step_of}
 use Rattle.router.specs.Clock.{ticked_of}
@@ -114,8 +113,8 @@ unfolding counted_by
 counted_keeps s number room = refused_keeps s (counted_by s number) number room refl refl refl
 
 judged_keeps : (j : Judged) (s : Station) (packet room : List ℕ) → Keeps s (judged_by j s packet room)
-judged_keeps (Refused number) s packet room = counted_keeps s number room
-judged_keeps (Accepted f) s packet room =
+judged_keeps (Err number) s packet room = counted_keeps s number room
+judged_keeps (Ok f) s packet room =
     let number = refusal_by s packet f in
     either_keeps s (has_router s && eqb f.vrid s.router.vrid) (accepted_by s packet f room) _
     (either_keeps s (eqb number 0) _ _ (acted_keeps s (accepted_outcome s f) 0 room)

@@ -7,9 +7,8 @@ use Prim.Native.Nat.{ℕ, ◌+◌, ◌-◌}
 use native.Mathlib.Omega.{arith}
 use lib.Dec.{eqb, ltb}
 use lib.ListN.{length, take, length-set}
-use Rattle.judging.specs.declared.Judged.{Judged}
-use Rattle.judging.specs.declared.Judged.TheVariants.{Accepted, Refused}
-use Rattle.judging.specs.Judging.{judged_of}
+use Rattle.judging.specs.Judging.{Judged, judged_of}
+use Rattle.std.specs.Prelude.{Ok, Err}
 use Rattle.states.specs.declared.record.Router.{Router}
 use Rattle.states.specs.declared.step.Event.TheVariants.{Packet}
 use Rattle.states.specs.declared.step.Outcome.{Outcome}
@@ -71,8 +70,8 @@ module _ (s : Station) (w : WellFormed s) where
       (length-set s.refusals (number - 1) _) refl
 
   judged_stays : (j : Judged) (packet room : List ℕ) → WellFormed (judged_by j s packet room).station
-  judged_stays (Refused number) packet room = counted_stays number
-  judged_stays (Accepted f) packet room =
+  judged_stays (Err number) packet room = counted_stays number
+  judged_stays (Ok f) packet room =
       let number = refusal_by s packet f in
       let refused = refused_of s.router number in
       let k = step_keeps s.primary (accepted_of s.router) (Packet f.priority f.source) in

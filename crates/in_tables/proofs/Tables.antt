@@ -15,10 +15,9 @@ use Rattle.states.specs.declared.record.Router.{Router}
 use Rattle.states.specs.Step.{state_number, counted}
 use Rattle.states.proofs.Kept.{Unchanged}
 use Rattle.router.specs.Accept.{refused_of}
-use Rattle.places.specs.declared.place.Found.{Found}
-use Rattle.places.specs.declared.place.Found.TheVariants.{At, Nothing}
+use Rattle.places.specs.Place.{Found, base_of, primary_of, record_at, set_record, state_word, set_event, place_of}
+use Rattle.std.specs.Prelude.{Some, None}
 use Rattle.places.specs.Layout.{encode_of, InRange}
-use Rattle.places.specs.Place.{base_of, primary_of, record_at, set_record, state_word, set_event, place_of}
 use Rattle.places.specs.Place.{count_word, count_refusal, count_at_place}
 use Rattle.places.proofs.Finding.{find_hit}
 use Rattle.places.proofs.Records.{encode_length, record_same}
@@ -197,7 +196,7 @@ module _ (s : Station) (w : WellFormed s) where
   primary_is = refl
 
   -- it is found there
-  pub found_first : ¬ (s.router.vrid ≡ 0) → router_place (words_of s) s.router.vrid ≡ At 0
+  pub found_first : ¬ (s.router.vrid ≡ 0) → router_place (words_of s) s.router.vrid ≡ Some 0
   unfolding router_place place_of
   found_first named =
       rw (ne_eqb s.router.vrid 0 named)
@@ -216,9 +215,9 @@ module _ (s : Station) (w : WellFormed s) where
   no_other v zero n h e = n (sym e ∙ first_word)
   no_other v (suc p) n h e = sym e ∙ free_word p (omega arith)
 
-  pub nothing_else : (f : Found) (v : ℕ) → (v ≡ s.router.vrid → v ≡ 0) → router_place (words_of s) v ≡ f → f ≡ Nothing
-  nothing_else Nothing v n e = refl
-  nothing_else (At p) v n e =
+  pub nothing_else : (f : Found) (v : ℕ) → (v ≡ s.router.vrid → v ≡ 0) → router_place (words_of s) v ≡ f → f ≡ None
+  nothing_else None v n e = refl
+  nothing_else (Some p) v n e =
       let there = sought_word (words_of s) v p e in
       absurd (there.2 (no_other v p n there.0 there.1))
 

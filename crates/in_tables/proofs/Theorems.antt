@@ -9,9 +9,8 @@ use lib.Dec.{eqb, ltb}
 use lib.ListN.{length, take}
 use borrow.Author.Tests.{ne_eqb, eqb-true, eqb-false}
 use Rattle.judging.specs.declared.Fields.{Fields}
-use Rattle.judging.specs.declared.Judged.{Judged}
-use Rattle.judging.specs.declared.Judged.TheVariants.{Accepted, Refused}
-use Rattle.judging.specs.Judging.{judged_of}
+use Rattle.judging.specs.Judging.{Judged, judged_of}
+use Rattle.std.specs.Prelude.{Ok, Err, Some, None}
 use Rattle.judging.proofs.Accepted.{refused_most, refused_least}
 use Rattle.states.specs.declared.step.Outcome.{Outcome}
 use Rattle.states.specs.Step.{step_of}
@@ -19,9 +18,7 @@ use Rattle.states.proofs.Kept.{Unchanged, step_unchanged}
 use Rattle.router.specs.Clock.{ticked_of}
 use Rattle.router.specs.Accept.{refused_of}
 use Rattle.router.proofs.Kept.{ticked_unchanged}
-use Rattle.places.specs.declared.place.Found.{Found}
-use Rattle.places.specs.declared.place.Found.TheVariants.{At, Nothing}
-use Rattle.places.specs.Place.{count_at_place}
+use Rattle.places.specs.Place.{Found, count_at_place}
 use Rattle.events.specs.Lists.{list_at}
 use Rattle.events.specs.Result.{Result as TableResult, refuses as table_refuses, router_place, acted_of}
 use Rattle.events.specs.Events.{happened_at, happened_of, clocked_at, clocked_of}
@@ -125,16 +122,16 @@ module _ (s : Station) (w : WellFormed s) where
 
   judged_in_table : (j : Judged) (packet room : List ℕ) → judged_of packet ≡ j
       → judged_at j (words_of s) (lists_of s) packet room ≡ in_table (judged_by j s packet room)
-  judged_in_table (Refused number) packet room e =
+  judged_in_table (Err number) packet room e =
       let least = refused_least packet number (sym e) in
       let most = refused_most packet number (sym e) in
       rw (count_first s w number (omega arith) (omega arith))
-  judged_in_table (Accepted f) packet room e =
+  judged_in_table (Ok f) packet room e =
       sought_in_table (eqb s.router.vrid 0) (eqb f.vrid s.router.vrid) packet f room refl refl
 
   -- a call for the station's router: at the first place, or refused
   called_in_table : (t : Bool) (call : Found → TableResult) (a b : Result) → eqb s.router.vrid 0 ≡ t
-      → call (At 0) ≡ in_table a → call Nothing ≡ in_table b
+      → call (Some 0) ≡ in_table a → call None ≡ in_table b
       → call (router_place (words_of s) s.router.vrid) ≡ in_table (cond (not t) a b)
   called_in_table true call a b e x y =
       ap call (none_in_table s s.router.vrid w (eqb-true s.router.vrid 0 e)) ∙ y

@@ -1,14 +1,12 @@
 -- The theorems of this crate, as statements: each is proved under the same name in proofs/, those of the table in
 -- Theorems.antt, of making a station in Begun.antt, of what steps keep in Keeping.antt and Staying.antt,
 -- of reading back in ReadBack.antt.
-use Rattle.std.specs.Prelude.{ℕ, ◌^◌, ◌<◌, ◌≡◌, List, Bool, eqb, replicate}
+use Rattle.std.specs.Prelude.{ℕ, ◌^◌, ◌<◌, ◌≡◌, List, Bool, eqb, replicate, None, Ok}
 use Rattle.sums.specs.Sum.{Bytes}
-use Rattle.judging.specs.declared.Judged.TheVariants.{Accepted}
 use Rattle.judging.specs.Judging.{judged_of}
 use Rattle.states.specs.declared.step.Event.{Event}
 use Rattle.states.specs.declared.step.Outcome.{Outcome}
 use Rattle.events.specs.Lists.{their_list}
-use Rattle.places.specs.declared.place.Found.TheVariants.{Nothing}
 use Rattle.events.specs.Result.{answer_of, router_place}
 use Rattle.configuring.specs.Configuring.{empty_of, configure_refusal, configured_words, configured_lists}
 use Rattle.events.specs.Events.{happened_of, clocked_of}
@@ -56,7 +54,7 @@ DeliveryInTable =
 -- "a table of one router", or of none: where the number is 0, no virtual router is found in it
 abbrev pub NoneInTable : Type 0
 NoneInTable =
-    (s : Station) (vrid : ℕ) → WellFormed s → s.router.vrid ≡ 0 → router_place (words_of s) vrid ≡ Nothing
+    (s : Station) (vrid : ℕ) → WellFormed s → s.router.vrid ≡ 0 → router_place (words_of s) vrid ≡ None
 
 -- a station just configured is the empty table with that router configured, and is refused by the same number
 abbrev pub MadeInTable : Type 0
@@ -98,7 +96,7 @@ LatestReadsBack =
     (s : Station) (o : Outcome) → WellFormed s → s.primary < 2 ^ 32 → Bytes (list_of s)
     → o.router.vrid ≡ s.router.vrid → o.router.priority ≡ s.router.priority
     → o.router.interval ≡ s.router.interval → ¬ (needed_by s o ≡ 0)
-    → (judged_of (packet_of (kept_by s o)) ≡ Accepted (advertised s o.writes))
+    → (judged_of (packet_of (kept_by s o)) ≡ Ok (advertised s o.writes))
     × (their_list (packet_of (kept_by s o)) (advertised s o.writes) ≡ list_of s)
 
 -- a well formed station stays so: startup and shutdown

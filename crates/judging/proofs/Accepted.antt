@@ -9,7 +9,7 @@ use lib.Dec.{eqb}
 use lib.ListN.{length, drop, length-drop, length-take}
 use borrow.Author.Tests.{eqb-true, eqb-false}
 use Rattle.judging.specs.declared.Fields.{Fields}
-use Rattle.judging.specs.declared.Judged.TheVariants.{Accepted, Refused}
+use Rattle.std.specs.Prelude.{Ok, Err}
 use Rattle.wire.specs.Check.{Check, first_refusal}
 use Rattle.wire.specs.Reading.{byte_at}
 use Rattle.headers.specs.Packet.{header_length, total_length, header_checks, payload}
@@ -38,11 +38,11 @@ unfolding refusal_of
 packet_most packet = refusal_most 8 (packet_checks packet) (omega arith)
 
 answer_test : (t : Bool) (packet : List ℕ) (number : ℕ) → eqb (refusal_of packet) 0 ≡ t
-    → Refused number ≡ cond t (Accepted (fields_of packet)) (Refused (refusal_of packet)) → number ≡ refusal_of packet
+    → Err number ≡ cond t (Ok (fields_of packet)) (Err (refusal_of packet)) → number ≡ refusal_of packet
 answer_test true packet number e f = absurd (let z : ◌≡◌ {A = ℕ} 0 1 = cc in omega arith)
 answer_test false packet number e f = cc
 
-pub refused_most : (packet : List ℕ) (number : ℕ) → Refused number ≡ judged_of packet → number ≤ 8
+pub refused_most : (packet : List ℕ) (number : ℕ) → Err number ≡ judged_of packet → number ≤ 8
 unfolding judged_of
 refused_most packet number f =
     let e = answer_test (eqb (refusal_of packet) 0) packet number refl f in
@@ -50,22 +50,22 @@ refused_most packet number f =
 
 -- a packet that is refused is refused by 1 or more
 least_test : (t : Bool) (packet : List ℕ) (number : ℕ) → eqb (refusal_of packet) 0 ≡ t
-    → Refused number ≡ cond t (Accepted (fields_of packet)) (Refused (refusal_of packet)) → number ≡ 0 → ⊥
+    → Err number ≡ cond t (Ok (fields_of packet)) (Err (refusal_of packet)) → number ≡ 0 → ⊥
 least_test true packet number e f z = let y : ◌≡◌ {A = ℕ} 0 1 = cc in omega arith
 least_test false packet number e f z =
     let y : refusal_of packet ≡ number = cc in eqb-false (refusal_of packet) 0 e (omega arith)
 
-pub refused_least : (packet : List ℕ) (number : ℕ) → Refused number ≡ judged_of packet → ¬ (number ≡ 0)
+pub refused_least : (packet : List ℕ) (number : ℕ) → Err number ≡ judged_of packet → ¬ (number ≡ 0)
 unfolding judged_of
 refused_least packet number f = least_test (eqb (refusal_of packet) 0) packet number refl f
 
 fields_test : (t : Bool) (packet : List ℕ) (fields : Fields) → eqb (refusal_of packet) 0 ≡ t
-    → Accepted fields ≡ cond t (Accepted (fields_of packet)) (Refused (refusal_of packet))
+    → Ok fields ≡ cond t (Ok (fields_of packet)) (Err (refusal_of packet))
     → (refusal_of packet ≡ 0) × (fields ≡ fields_of packet)
 fields_test true packet fields e f = (eqb-true (refusal_of packet) 0 e, cc)
 fields_test false packet fields e f = absurd (let z : ◌≡◌ {A = ℕ} 0 1 = cc in omega arith)
 
-pub accepted_is : (packet : List ℕ) (fields : Fields) → Accepted fields ≡ judged_of packet
+pub accepted_is : (packet : List ℕ) (fields : Fields) → Ok fields ≡ judged_of packet
     → (refusal_of packet ≡ 0) × (fields ≡ fields_of packet)
 unfolding judged_of
 accepted_is packet fields f = fields_test (eqb (refusal_of packet) 0) packet fields refl f
@@ -84,7 +84,7 @@ list_fits packet e =
     omega (arith, message_passed (payload packet) m, payload_most packet)
 
 -- the address list of an accepted packet lies in it
-pub list_inside : (packet : List ℕ) (fields : Fields) → Accepted fields ≡ judged_of packet
+pub list_inside : (packet : List ℕ) (fields : Fields) → Ok fields ≡ judged_of packet
     → fields.list + 4 * fields.count ≤ length packet
 unfolding fields_of
 list_inside packet fields f =

@@ -61,3 +61,6 @@ pub ruleset message_tests = (version_right, too_short_lem, long_enough, enough_l
 pub message_passed : (payload : List ℕ) → first_refusal (message_checks payload) ≡ 0
     → message_length payload ≤ length payload
 message_passed payload e = let p = passed (message_checks payload) (omega arith) e in omega message_tests
+
+pub message_holds : (payload : List ℕ) → first_refusal (message_checks payload) ≡ 0 → 8 ≤ length payload
+message_holds payload e = omega (arith, message_passed payload e)

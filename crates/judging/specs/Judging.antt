@@ -1,8 +1,6 @@
 -- Judging a packet: the first of refusals 1 to 8, or the fields of an accepted packet.
-use Rattle.std.specs.Prelude.{ℕ, ◌+◌, List, ◌++◌, cond, eqb}
+use Rattle.std.specs.Prelude.{ℕ, ◌+◌, List, ◌++◌, Result, Ok, Err, cond, eqb}
 use Rattle.judging.specs.declared.Fields.{Fields}
-use Rattle.judging.specs.declared.Judged.{Judged}
-use Rattle.judging.specs.declared.Judged.TheVariants.{Accepted, Refused}
 use Rattle.wire.specs.Check.{Check, first_refusal}
 use Rattle.wire.specs.Reading.{byte_at, number_at}
 use Rattle.headers.specs.Packet.{header_length, header_checks, payload}
@@ -33,11 +31,10 @@ fields_in source message list =
 unfoldable pub fields_of : List ℕ → Fields
 fields_of packet = fields_in (number_at packet 12) (payload packet) (header_length packet + 8)
 
+-- what a packet is judged to be: the fields that it has, or the number that it is refused by
+abbrev pub Judged : Type 0
+Judged = Result Fields ℕ
+
 -- "A packet is accepted exactly when it passes every check"
 unfoldable pub judged_of : List ℕ → Judged
-judged_of packet = cond (eqb (refusal_of packet) 0) (Accepted (fields_of packet)) (Refused (refusal_of packet))
-
--- 01's number for an answer
-abbrev pub judged_number : Judged → ℕ
-judged_number (Accepted fields) = 0
-judged_number (Refused number) = number
+judged_of packet = cond (eqb (refusal_of packet) 0) (Ok (fields_of packet)) (Err (refusal_of packet))

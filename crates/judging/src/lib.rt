@@ -5,10 +5,13 @@ mod message; // the VRRP message, refusals 5 to 8
 
 ghost use Rattle.std.specs.Prelude.{◌≡◌, ◌≤◌, length};
 ghost use Rattle.judging.specs.Judging.{fields_in, judged_of};
+ghost use Rattle.wire.specs.Check.{first_refusal};
+ghost use Rattle.wire.specs.Refusal.{numbered};
+ghost use Rattle.headers.specs.Packet.{header_checks, payload};
 
 use crate::message::message_refusal;
 use headers::{header_length, header_refusal, total_length};
-use sums::number;
+use wire::refusal::Refusal;
 
 // What a packet that passes refusals 1 to 8 says.
 #[derive(Clone, Copy)]
@@ -27,44 +30,39 @@ pub struct Fields {
     pub list: usize,
 }
 
-#[derive(Clone, Copy)]
-pub enum Judged {
-    Accepted(Fields),
-    // the number of the first check that fails
-    Refused(u32),
-}
-
 // The fields of a message, with its packet's source address and where its address list stands there.
 fn read_fields(source: u32, message: &[u8], list: usize) -> Fields
     requires { 8 ≤ length message.now }
     ensures { result ≡ fields_in source message.now list }
 {
     Fields {
-        source: source,
+        source,
         vrid: message[1],
         priority: message[2],
         count: message[3],
         authentication: message[4],
         interval: message[5],
-        list: list,
+        list,
     }
 }
 
-// Judges a packet up to refusal 8: any bytes have an answer.
-pub fn judge(packet: &[u8]) -> Judged
-    ensures { result ≡ judged_of packet.now }
+// The bytes between the header and the total length.
+#[tactic(auto, using(crate::proofs::Passing::header_passed))]
+fn payload(packet: &[u8]) -> &[u8]
+    requires { first_refusal (header_checks packet.now) ≡ 0 }
+    ensures { result.now ≡ payload packet.now }
 {
-    let header = header_refusal(packet);
-    if header != 0 {
-        return Judged::Refused(header);
-    }
-    let start = header_length(packet);
-    let end = total_length(packet);
-    let payload = &packet[start..end];
-    let message = message_refusal(payload);
-    if message != 0 {
-        return Judged::Refused(message);
-    }
-    let source = number(packet[12], packet[13], packet[14], packet[15]);
-    Judged::Accepted(read_fields(source, payload, start + 8))
+    &packet[header_length(packet)..total_length(packet)]
+}
+
+// Judges a packet up to refusal 8: any bytes have an answer.
+#[tactic(auto, using(crate::proofs::Passing::steps))]
+pub fn judge(packet: &[u8]) -> Result<Fields, Refusal>
+    ensures { numbered result ≡ judged_of packet.now }
+{
+    header_refusal(packet)?;
+    let message = payload(packet);
+    message_refusal(message)?;
+    let source = u32::from_be_bytes([packet[12], packet[13], packet[14], packet[15]]);
+    Ok(read_fields(source, message, header_length(packet) + 8))
 }

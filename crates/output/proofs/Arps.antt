@@ -1,15 +1,13 @@
 -- The ARP frames of an address list: how long they are, and what one turn of the loop that writes them adds.
 -- Assumes nothing.
-use mathlib.Core.Path.{◌≡◌, refl, sym, ap, ◌∙◌}
+use mathlib.Core.Path.{◌≡◌, refl, sym, ap, subst, ◌∙◌}
 use mathlib.Core.List.{List, [], ◌∷◌, ◌++◌, append_assoc, append-nil}
-use Prim.Native.Nat.{ℕ, suc, ◌+◌, ◌-◌, ◌*◌, ◌/◌, ◌%◌, ◌≤◌}
-use native.Mathlib.Numerals.{add-one, add-two, add-three}
+use Prim.Native.Nat.{ℕ, ◌+◌, ◌-◌, ◌*◌, ◌/◌, ◌%◌, ◌≤◌}
 use native.Mathlib.Omega.{arith}
-use lib.ListN.{length, get_or, take, drop, length-append}
-use lib.Seq.{drop-cons, take-add, length-take-le}
+use lib.ListN.{length, get_or, take, drop, length-append, length-drop}
+use lib.Seq.{drop-drop, take-add, length-take-le, take-append_seam, drop-append_seam}
 use borrow.Rule.Slice.PartMut.{mid_of, put_mid}
 use Rattle.sums.specs.Number.{number_of}
-use Rattle.wire.specs.Reading.{number_at}
 use Rattle.writing.specs.Arp.{arp_of}
 use Rattle.writing.specs.Writing.{over}
 use Rattle.output.specs.Output.{arps_of}
@@ -42,36 +40,43 @@ arps_append vrid (a ∷ (b ∷ (c ∷ (d ∷ s)))) t h =
     ap (λ (x : List ℕ). first ++ x) (arps_append vrid s t (omega arith))
     ∙ sym (append_assoc first (arps_of vrid s) (arps_of vrid t))
 
--- four bytes of a list
-four : (s : List ℕ) (i : ℕ) → i + 4 ≤ length s
-    → take 4 (drop i s) ≡ get_or s i 0 ∷ (get_or s (i + 1) 0 ∷ (get_or s (i + 2) 0 ∷ (get_or s (i + 3) 0 ∷ [])))
-four s i h =
-    let a = drop-cons s i 0 (omega arith) in
-    let b = drop-cons s (suc i) 0 (omega arith) in
-    let c = drop-cons s (suc (suc i)) 0 (omega arith) in
-    let d = drop-cons s (suc (suc (suc i))) 0 (omega arith) in
-    simp (add-one, add-two, add-three) (rw (a, b, c, d))
-
--- the frames of one address more
-arps_more : (vrid : ℕ) (list : List ℕ) (k : ℕ) → 4 * k + 4 ≤ length list
-    → arps_of vrid (take (4 * (k + 1)) list) ≡ arps_of vrid (take (4 * k) list) ++ arp_of vrid (number_at list (4 * k))
+-- the frame of one address
+arps_one : (vrid : ℕ) (chunk : List ℕ) → length chunk ≡ 4
+    → arps_of vrid chunk ≡ arp_of vrid (number_of (get_or chunk 0 0) (get_or chunk 1 0) (get_or chunk 2 0) (get_or chunk 3 0))
 unfolding arps_of
-arps_more vrid list k h =
-    let e : 4 * (k + 1) ≡ 4 * k + 4 = omega arith in
-    let n : length (take (4 * k) list) ≡ 4 * k = length-take-le (4 * k) list (omega arith) in
-    rw (e, take-add (4 * k) 4 list, four list (4 * k))
-    (arps_append vrid (take (4 * k) list) _ (omega arith)
-    ∙ ap (λ (x : List ℕ). arps_of vrid (take (4 * k) list) ++ x) (append-nil (arp_of vrid (number_at list (4 * k)))))
+arps_one vrid [] h = absurd (omega arith)
+arps_one vrid (a ∷ []) h = absurd (omega arith)
+arps_one vrid (a ∷ (b ∷ [])) h = absurd (omega arith)
+arps_one vrid (a ∷ (b ∷ (c ∷ []))) h = absurd (omega arith)
+arps_one vrid (a ∷ (b ∷ (c ∷ (d ∷ [])))) h = append-nil (arp_of vrid (number_of a b c d))
+arps_one vrid (a ∷ (b ∷ (c ∷ (d ∷ (e ∷ s))))) h = absurd (omega arith)
 
--- where the frames of k addresses stand, and the next one is written over the part right behind them, it stands too
-pub arps_turn : (vrid : ℕ) (list room before part : List ℕ) (k address : ℕ) → 4 * k + 4 ≤ length list
-    → before ≡ over (arps_of vrid (take (4 * k) list)) room
-    → address ≡ number_at list (4 * k)
-    → part ≡ over (arp_of vrid address) (mid_of (42 * k) (length before - 42 * k) before)
-    → put_mid (42 * k) (length before - 42 * k) before part ≡ over (arps_of vrid (take (4 * (k + 1)) list)) room
-arps_turn vrid list room before part k address h b n p =
-    let written = take (4 * k) list in
-    let long : 42 * k ≡ length (arps_of vrid written) =
-    omega (arith, arps_length vrid written, length-take-le (4 * k) list (omega arith)) in
-    part_behind (arps_of vrid written) (arp_of vrid address) room before part (42 * k) b long p
-    ∙ rw (n, arps_more vrid list k)
+-- an address is read off what is left of a list after k others
+module _ (list chunk tail : List ℕ) (k : ℕ) (whole : length chunk ≡ 4) (left : drop (4 * k) list ≡ chunk ++ tail) where
+  pub within : 4 * k ≤ length list → 4 * (k + 1) ≤ length list
+  within h = omega (arith, length-drop (4 * k) list, ap length left, length-append chunk tail)
+
+  pub left_after : tail ≡ drop (4 * (k + 1)) list
+  left_after =
+      let e : 4 * (k + 1) ≡ 4 * k + 4 = omega arith in
+      let seam = subst (λ (n : ℕ). drop n (chunk ++ tail) ≡ tail) whole (drop-append_seam chunk tail) in
+      sym (rw (e, ← drop-drop, left) seam)
+
+  taken : take (4 * (k + 1)) list ≡ take (4 * k) list ++ chunk
+  taken =
+      let e : 4 * (k + 1) ≡ 4 * k + 4 = omega arith in
+      let seam = subst (λ (n : ℕ). take n (chunk ++ tail) ≡ chunk) whole (take-append_seam chunk tail) in
+      rw (e, take-add (4 * k) 4 list, left, seam) refl
+
+  -- where the frames of k addresses stand, and the next one is written over the part right behind them, it stands too
+  pub arps_turn : (vrid address : ℕ) (room before part : List ℕ) → 4 * k ≤ length list
+      → before ≡ over (arps_of vrid (take (4 * k) list)) room
+      → address ≡ number_of (get_or chunk 0 0) (get_or chunk 1 0) (get_or chunk 2 0) (get_or chunk 3 0)
+      → part ≡ over (arp_of vrid address) (mid_of (42 * k) (length before - 42 * k) before)
+      → put_mid (42 * k) (length before - 42 * k) before part ≡ over (arps_of vrid (take (4 * (k + 1)) list)) room
+  arps_turn vrid address room before part h b n p =
+      let written = take (4 * k) list in
+      let many : length written ≡ 4 * k = length-take-le (4 * k) list h in
+      let long : 42 * k ≡ length (arps_of vrid written) = omega (arith, arps_length vrid written, many) in
+      part_behind (arps_of vrid written) (arp_of vrid address) room before part (42 * k) b long p
+      ∙ rw (taken, arps_append vrid written chunk (omega arith), arps_one vrid chunk whole, n)

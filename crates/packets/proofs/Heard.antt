@@ -8,23 +8,24 @@ use native.Mathlib.Omega.{arith}
 use lib.Dec.{eqb}
 use borrow.Author.Tests.{ne_eqb}
 use Rattle.judging.specs.declared.Fields.{Fields}
-use Rattle.judging.specs.declared.Judged.TheVariants.{Accepted, Refused as JudgedRefused}
+use Rattle.std.specs.Prelude.{Ok, Err, Some, None}
 use Rattle.judging.specs.Judging.{judged_of}
-use Rattle.judging.proofs.Accepted.{refused_most, refused_least}
+use Rattle.judging.proofs.Accepted.{refused_most}
 use Rattle.states.specs.declared.record.Turn.{Turn}
 use Rattle.states.specs.declared.step.Event.TheVariants.{Packet}
 use Rattle.states.specs.declared.step.Outcome.{Outcome}
-use Rattle.states.specs.declared.step.Writes.{Writes}
-use Rattle.states.specs.declared.step.Writes.TheVariants.{Nothing as WritesNothing, Advertisement, Farewell, Takeover}
+use Rattle.states.specs.declared.step.Writes.TheVariants.{Nothing}
 use Rattle.states.specs.Turn.{turn_of}
 use Rattle.states.proofs.Turning.{applied_turn}
 use Rattle.router.specs.Accept.{list_differs, router_refusal, accepted_of}
-use Rattle.places.specs.declared.place.Found.TheVariants.{At, Nothing}
 use Rattle.places.specs.Place.{primary_of, record_at, set_event, count_refusal, count_at_place}
-use Rattle.events.specs.declared.answer.Answered.TheVariants.{Done, Refused}
+use Rattle.wire.specs.declared.refusal.Refusal.{Refusal}
+use Rattle.wire.specs.declared.refusal.Refusal.TheVariants.{UnknownVrid}
+use Rattle.wire.specs.Refusal.{refusal_number, room_needed}
+use Rattle.wire.proofs.Refusals.{nonzero, no_room}
 use Rattle.events.specs.Lists.{list_at, their_list, lists_match}
 use Rattle.events.specs.Result.{Leaves, router_place, acted_of}
-use Rattle.events.specs.Turned.{turned_at, is_silent}
+use Rattle.events.specs.Turned.{turned_at}
 use Rattle.events.proofs.Acted.{acted_silent}
 use Rattle.events.proofs.Sought.{leaves_equal}
 use Rattle.packets.specs.Packets.{refusal_at, accepted_at, heard_at, sought_at, heard_of}
@@ -47,12 +48,6 @@ refused_range words lists packet p f number e n =
     (not (eqb f.interval r.interval))
     number e n
 
-silent_test : (w : Writes) → is_silent w ≡ true → w ≡ WritesNothing
-silent_test WritesNothing e = refl
-silent_test Advertisement e = absurd (let z : ◌≡◌ {A = ℕ} 0 1 = cc in omega arith)
-silent_test Farewell e = absurd (let z : ◌≡◌ {A = ℕ} 0 1 = cc in omega arith)
-silent_test Takeover e = absurd (let z : ◌≡◌ {A = ℕ} 0 1 = cc in omega arith)
-
 module _ (words lists : List ℕ) (p : ℕ) (f : Fields) (room : List ℕ) where
   -- what the code does with an accepted packet is what the table of states has it do
   accepted_turn : (t : Turn) → t ≡ turn_of (accepted_at words p f) → turned_at words p true t ≡ accepted_at words p f
@@ -64,22 +59,23 @@ module _ (words lists : List ℕ) (p : ℕ) (f : Fields) (room : List ℕ) where
       → acted_of words lists p (turned_at words p true t) 0 room ≡ acted_of words lists p (accepted_at words p f) 0 room
   accepted_acts t h = ap (λ (o : Outcome). acted_of words lists p o 0 room) (accepted_turn t h)
 
-  pub accepted_silent : (t : Turn) (after : List ℕ) → t ≡ turn_of (accepted_at words p f) → is_silent t.writes ≡ true
+  pub accepted_silent : (t : Turn) (after : List ℕ) → t ≡ turn_of (accepted_at words p f) → t.writes ≡ Nothing
       → after ≡ set_event words p (turned_at words p true t).router
-      → Leaves (acted_of words lists p (accepted_at words p f) 0 room) (Done 0 0) after room
+      → Leaves (acted_of words lists p (accepted_at words p f) 0 room) (Ok (record { written = 0; leftover = 0 })) after room
   accepted_silent t after h s w =
       leaves_equal _ _ _ _ _ (accepted_acts t h)
-      (acted_silent words lists p (turned_at words p true t) 0 room after (silent_test t.writes s) w)
+      (acted_silent words lists p (turned_at words p true t) 0 room after s w)
 
 module _ (words lists packet : List ℕ) (p : ℕ) (f : Fields) (room : List ℕ) where
-  pub heard_refused : (number : ℕ) (after : List ℕ) → number ≡ refusal_at words lists p packet f → ¬ (number ≡ 0)
-      → after ≡ count_at_place words p number
-      → Leaves (heard_at words lists p packet f room) (Refused number) after room
-  heard_refused number after e n w =
-      let t = ne_eqb number 0 n in
+  pub heard_refused : (reason : Refusal) (after : List ℕ) → refusal_number reason ≡ refusal_at words lists p packet f
+      → after ≡ count_at_place words p (refusal_number reason)
+      → Leaves (heard_at words lists p packet f room) (Err reason) after room
+  heard_refused reason after e w =
+      let t = ne_eqb (refusal_number reason) 0 (nonzero reason) in
+      let range = refused_range words lists packet p f (refusal_number reason) e (nonzero reason) in
+      let none = no_room reason (λ z. omega (arith, range)) in
       record {
-        answer_is = rw (← e, t);
-        proper = (n, λ z. omega (arith, refused_range words lists packet p f number e n));
+        answer_is = rw (← e, t, none);
         words_are = rw (← e, t, w);
         room_is = rw (← e, t);
       }
@@ -88,36 +84,33 @@ module _ (words lists packet : List ℕ) (p : ℕ) (f : Fields) (room : List ℕ
       → acted_of words lists p (accepted_at words p f) 0 room ≡ heard_at words lists p packet f room
   heard_accepted e = rw e
 
-  pub sought_there : router_place words f.vrid ≡ At p
+  pub sought_there : router_place words f.vrid ≡ Some p
       → heard_at words lists p packet f room ≡ sought_at (router_place words f.vrid) words lists packet f room
   sought_there e = rw e
 
 module _ (words lists packet room : List ℕ) where
-  pub sought_nowhere : (f : Fields) (after : List ℕ) → router_place words f.vrid ≡ Nothing → after ≡ count_refusal words 9
-      → Leaves (sought_at (router_place words f.vrid) words lists packet f room) (Refused 9) after room
+  pub sought_nowhere : (f : Fields) (after : List ℕ) → router_place words f.vrid ≡ None → after ≡ count_refusal words 9
+      → Leaves (sought_at (router_place words f.vrid) words lists packet f room) (Err UnknownVrid) after room
   sought_nowhere f after e w =
       record {
         answer_is = rw e;
-        proper = (λ z. omega arith, λ z. omega arith);
         words_are = rw (e, w);
         room_is = rw e;
       }
 
-  pub heard_unfit : (number : ℕ) (after : List ℕ) → judged_of packet ≡ JudgedRefused number → after ≡ count_refusal words number
-      → Leaves (heard_of words lists packet room) (Refused number) after room
+  pub heard_unfit : (reason : Refusal) (after : List ℕ) → judged_of packet ≡ Err (refusal_number reason)
+      → after ≡ count_refusal words (refusal_number reason)
+      → Leaves (heard_of words lists packet room) (Err reason) after room
   unfolding heard_of
-  heard_unfit number after e w =
+  heard_unfit reason after e w =
+      let none = no_room reason (λ z. omega (arith, refused_most packet (refusal_number reason) (sym e))) in
       record {
-        answer_is = rw e;
-        proper = (
-          λ z. omega (arith, refused_least packet number (sym e)),
-          λ z. omega (arith, refused_most packet number (sym e)),
-        );
+        answer_is = rw (e, none);
         words_are = rw (e, w);
         room_is = rw e;
       }
 
-  pub heard_fit : (f : Fields) → judged_of packet ≡ Accepted f
+  pub heard_fit : (f : Fields) → judged_of packet ≡ Ok f
       → sought_at (router_place words f.vrid) words lists packet f room ≡ heard_of words lists packet room
   unfolding heard_of
   heard_fit f e = rw e

@@ -1,16 +1,12 @@
 -- A packet that the host hands over (01, 'Refusal numbers', 'Counts').
-use Rattle.std.specs.Prelude.{ℕ, List, cond, eqb}
+use Rattle.std.specs.Prelude.{ℕ, List, cond, eqb, Some, None, Ok, Err}
 use Rattle.judging.specs.declared.Fields.{Fields}
-use Rattle.judging.specs.declared.Judged.{Judged}
-use Rattle.judging.specs.declared.Judged.TheVariants.{Accepted, Refused}
-use Rattle.judging.specs.Judging.{judged_of}
+use Rattle.judging.specs.Judging.{Judged, judged_of}
 use Rattle.states.specs.declared.step.Event.TheVariants.{Packet}
 use Rattle.states.specs.declared.step.Outcome.{Outcome}
 use Rattle.states.specs.Step.{step_of}
 use Rattle.router.specs.Accept.{router_refusal, accepted_of}
-use Rattle.places.specs.declared.place.Found.{Found}
-use Rattle.places.specs.declared.place.Found.TheVariants.{At, Nothing}
-use Rattle.places.specs.Place.{primary_of, record_at, count_refusal, count_at_place}
+use Rattle.places.specs.Place.{Found, primary_of, record_at, count_refusal, count_at_place}
 use Rattle.events.specs.Lists.{list_at, their_list, lists_match}
 use Rattle.events.specs.Result.{Result, refuses, router_place, acted_of}
 
@@ -35,13 +31,13 @@ heard_at words lists place packet fields room =
 
 -- "9 VRID not in the table"
 abbrev pub sought_at : Found → List ℕ → List ℕ → List ℕ → Fields → List ℕ → Result
-sought_at Nothing words lists packet fields room = refuses 9 (count_refusal words 9) room
-sought_at (At place) words lists packet fields room = heard_at words lists place packet fields room
+sought_at None words lists packet fields room = refuses 9 (count_refusal words 9) room
+sought_at (Some place) words lists packet fields room = heard_at words lists place packet fields room
 
 -- "Refusals 1 to 9 add one to that interface count"
 abbrev pub judged_at : Judged → List ℕ → List ℕ → List ℕ → List ℕ → Result
-judged_at (Refused number) words lists packet room = refuses number (count_refusal words number) room
-judged_at (Accepted fields) words lists packet room =
+judged_at (Err number) words lists packet room = refuses number (count_refusal words number) room
+judged_at (Ok fields) words lists packet room =
     sought_at (router_place words fields.vrid) words lists packet fields room
 
 -- a packet, of any bytes

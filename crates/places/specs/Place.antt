@@ -1,11 +1,9 @@
 -- Places in a table of 4,096 words: 16 of the interface, then 16 for each of 255 places (01, 'The table').
-use Rattle.std.specs.Prelude.{ℕ, zero, suc, ◌+◌, ◌-◌, ◌*◌, cond, List, take, drop, set, ◌==◌, slice_index, slice_set}
+use Rattle.std.specs.Prelude.{ℕ, zero, suc, ◌+◌, ◌-◌, ◌*◌, cond, List, take, drop, set, ◌==◌, slice_index, slice_set, Option, Some, None}
 use Rattle.std.proofs.Math.Seq.{paste}
 use Rattle.states.specs.declared.record.State.{State}
 use Rattle.states.specs.declared.record.Router.{Router}
 use Rattle.states.specs.Step.{state_number, counted}
-use Rattle.places.specs.declared.place.Found.{Found}
-use Rattle.places.specs.declared.place.Found.TheVariants.{At, Nothing}
 use Rattle.places.specs.Layout.{state_of, decode_of, encode_of}
 
 -- where a place's words begin
@@ -38,11 +36,15 @@ set_event words place r =
     (base_of place + 8)
     r.counts.became
 
+-- a place that was looked for, by its number, where there is one
+abbrev pub Found : Type 0
+Found = Option ℕ
+
 -- the first of so many places, from one on, whose first word is this
 unfoldable pub place_from : List ℕ → ℕ → ℕ → ℕ → Found
-place_from words first place zero = Nothing
+place_from words first place zero = None
 place_from words first place (suc more) =
-    cond (slice_index words (base_of place) == first) (At place) (place_from words first (suc place) more)
+    cond (slice_index words (base_of place) == first) (Some place) (place_from words first (suc place) more)
 
 -- the place of a virtual router by its number, which is its place's first word; a free place has 0 there, and
 -- "Configuring takes the lowest free place"

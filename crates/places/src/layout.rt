@@ -5,12 +5,6 @@ ghost use Rattle.places.specs.Layout.{flag_of, state_of, counts_in, decode_of, e
 use states::record::{Counts, Router, State};
 use states::step::state_number;
 
-fn flag(b: bool) -> u32
-    ensures { result ≡ flag_of b }
-{
-    if b { 1 } else { 0 }
-}
-
 // The state that a word stands for: 0 is Initialize, 1 Backup, and every other Master.
 pub fn state_of(word: u32) -> State
     ensures { result ≡ state_of word }
@@ -22,25 +16,6 @@ pub fn state_of(word: u32) -> State
         return State::Backup;
     }
     State::Master
-}
-
-fn wide(byte: u8) -> u32
-    ensures { result ≡ byte }
-{
-    byte as u32
-}
-
-fn low(word: u32) -> u8
-    ensures { result ≡ word % 256 }
-{
-    (word % 256) as u8
-}
-
-// At most 16 addresses.
-fn addresses(word: u32) -> u8
-    ensures { result ≡ word % 17 }
-{
-    (word % 17) as u8
 }
 
 fn decode_counts(s: &[u32]) -> Counts
@@ -62,21 +37,16 @@ pub fn decode(s: &[u32]) -> Router
     requires { length s.now ≡ 16 }
     ensures { result ≡ decode_of s.now }
 {
-    let vrid = low(s[0]);
-    let priority = low(s[1]);
-    let interval = low(s[2]);
-    let state = state_of(s[4]);
-    let count = addresses(s[6]);
-    let counts = decode_counts(s);
     Router {
-        vrid: vrid,
-        priority: priority,
-        interval: interval,
+        vrid: (s[0] % 256) as u8,
+        priority: (s[1] % 256) as u8,
+        interval: (s[2] % 256) as u8,
         preempt: s[3] == 1,
-        state: state,
+        state: state_of(s[4]),
         timer: s[5],
-        count: count,
-        counts: counts,
+        // at most 16 addresses
+        count: (s[6] % 17) as u8,
+        counts: decode_counts(s),
     }
 }
 
@@ -84,28 +54,21 @@ pub fn decode(s: &[u32]) -> Router
 pub fn encode(r: Router) -> [u32; 16]
     ensures { result ≡ encode_of r }
 {
-    let c = r.counts;
-    let state = r.state;
-    let vrid = wide(r.vrid);
-    let priority = wide(r.priority);
-    let interval = wide(r.interval);
-    let preempt = flag(r.preempt);
-    let kind = state_number(state);
-    let count = wide(r.count);
+    let counts = r.counts;
     [
-        vrid,
-        priority,
-        interval,
-        preempt,
-        kind,
+        u32::from(r.vrid),
+        u32::from(r.priority),
+        u32::from(r.interval),
+        u32::from(r.preempt),
+        state_number(r.state),
         r.timer,
-        count,
-        c.accepted,
-        c.became,
-        c.owner,
-        c.authentication,
-        c.list,
-        c.interval,
+        u32::from(r.count),
+        counts.accepted,
+        counts.became,
+        counts.owner,
+        counts.authentication,
+        counts.list,
+        counts.interval,
         0,
         0,
         0,

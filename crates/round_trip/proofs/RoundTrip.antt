@@ -9,7 +9,7 @@ use lib.Seq.{take_all, take_at}
 use Rattle.sums.specs.Sum.{sum_of, Bytes}
 use Rattle.sums.proofs.Bytes.{bytes_each}
 use Rattle.sums.proofs.Theorems.{checksum_sums}
-use Rattle.judging.specs.declared.Judged.TheVariants.{Accepted}
+use Rattle.std.specs.Prelude.{Ok}
 use Rattle.wire.specs.Check.{first_refusal, Passes}
 use Rattle.wire.specs.Reading.{number_at}
 use Rattle.headers.specs.Packet.{header_length, total_length, cause_of, header_sum_wrong, not_ours, header_checks, payload}
@@ -94,7 +94,7 @@ module _ (vrid priority interval primary room : ℕ) (addresses : List ℕ) (v :
   unfolding packet_of header_of
   source_is = sym (number_of_bytes primary)
 
-  pub accepted : judged_of packet ≡ Accepted (fields_in primary message 28)
+  pub accepted : judged_of packet ≡ Ok (fields_in primary message 28)
   unfolding fields_of
   accepted = sym (accepts packet (fields_in primary message 28) not_refused (cc (source_is, payload_is, header_is)))
 
@@ -116,6 +116,6 @@ module _ (vrid priority interval primary room : ℕ) (addresses : List ℕ) (v :
     unfolding frame_of
     packet_taken = ap (drop 14) frame_taken
 
-    pub reads_back : (judged_of (drop 14 (take k after)) ≡ Accepted (fields_in primary message 28))
+    pub reads_back : (judged_of (drop 14 (take k after)) ≡ Ok (fields_in primary message 28))
         × (take (length addresses) (drop 28 (drop 14 (take k after))) ≡ addresses)
     reads_back = rw packet_taken (accepted, list_stands)

@@ -2,17 +2,22 @@
 -- Assumes nothing.
 use mathlib.Core.Path.{◌≡◌, refl, sym, ap, ◌∙◌}
 use mathlib.Core.List.{List, [], ◌∷◌, ◌++◌}
-use mathlib.Core.Bool.{Bool, true, false, cond}
-use Prim.Native.Nat.{ℕ, ◌+◌}
+use mathlib.Core.Bool.{Bool, true, false}
+use Prim.Native.Nat.{ℕ}
 use native.Mathlib.Omega.{arith}
-use lib.Dec.{eqb}
 use lib.ListN.{length}
-use borrow.Author.Tests.{eqb-true}
-use Rattle.rooms.specs.declared.Written.TheVariants.{Frame, Refused, Short}
+use Rattle.std.specs.Prelude.{Result, Ok, Err, is_ok}
+use Rattle.std.proofs.lemmas.Bool.{true≢false}
+use Rattle.std.proofs.lemmas.Result.{IfOk-at_ok}
+use Rattle.judging.specs.declared.Fields.{Fields}
+use Rattle.wire.specs.declared.refusal.Refusal.{Refusal}
+use Rattle.wire.specs.Refusal.{refusal_number, numbered}
+use Rattle.wire.proofs.Refusals.{same_number, same_answer}
+use Rattle.judging.proofs.Accepted.{refused_most}
 use Rattle.wire.specs.Check.{Check, first_refusal, Passes}
 use Rattle.writing.specs.Frame.{message_of}
-use Rattle.judging.specs.Judging.{packet_checks, refusal_of}
-use Rattle.writing.specs.Writing.{advertisement_refusal, answer_of}
+use Rattle.judging.specs.Judging.{packet_checks, refusal_of, judged_of}
+use Rattle.writing.specs.Writing.{advertisement_refusal}
 use Rattle.round_trip.specs.Theorems.{AcceptedExactly, FirstThatFails, RoundTrip, OneJudgement, OneWriting}
 use Rattle.wire.proofs.Checks.{passed, all_pass}
 use Rattle.writing.proofs.Writes.{advertisement_passed}
@@ -43,29 +48,32 @@ pub first_that_fails : FirstThatFails
 unfolding refusal_of
 first_that_fails packet n = failing (packet_checks packet) n
 
+numbers_judged : (packet : List ℕ) (a b : Result Fields Refusal) → numbered a ≡ judged_of packet → numbered b ≡ judged_of packet
+    → a ≡ b
+numbers_judged packet (Ok f) (Ok g) x y = cc
+numbers_judged packet (Ok f) (Err q) x y = absurd (true≢false (ap is_ok (x ∙ sym y)))
+numbers_judged packet (Err p) (Ok g) x y = absurd (true≢false (ap is_ok (y ∙ sym x)))
+numbers_judged packet (Err p) (Err q) x y =
+    let n : refusal_number p ≡ refusal_number q = cc in
+    let most = refused_most packet (refusal_number p) x in
+    ap Err (same_number p q n (λ e. omega arith))
+
 pub one_judgement : OneJudgement
-one_judgement packet a b x y = x ∙ sym y
+one_judgement = numbers_judged
 
 pub one_writing : OneWriting
-one_writing refusal need frame before a b after other x y =
-    (x.answer_is ∙ sym y.answer_is, x.room_is ∙ sym y.room_is)
-
--- an answer of a frame is given without a refusal, with the bytes that were needed
-frame_test : (s t : Bool) (refusal need k : ℕ) → eqb refusal 0 ≡ s
-    → Frame k ≡ cond s (Frame need) (cond t (Short need) (Refused refusal)) → (refusal ≡ 0) × (k ≡ need)
-frame_test true t refusal need k e f = (eqb-true refusal 0 e, cc)
-frame_test false true refusal need k e f = (cc, cc)
-frame_test false false refusal need k e f = (cc, cc)
-
-frame_answered : (refusal need k : ℕ) → Frame k ≡ answer_of refusal need → (refusal ≡ 0) × (k ≡ need)
-frame_answered refusal need k e = frame_test (eqb refusal 0) (eqb refusal 22) refusal need k refl e
+one_writing refusal need frame before a b after other x y = (
+  same_answer a b (x.refusal_is.number_is ∙ sym y.refusal_is.number_is) (x.refusal_is.needed_is ∙ sym y.refusal_is.needed_is)
+      (λ j k e f. IfOk-at_ok (λ length. length ≡ need) e x.length_is ∙ sym (IfOk-at_ok (λ length. length ≡ need) f y.length_is)),
+  x.room_is ∙ sym y.room_is,
+)
 
 pub round_trip : RoundTrip
 unfolding message_of
 round_trip vrid priority interval primary k addresses before after v p i a b w =
     let room = length before in
     let refusal = advertisement_refusal vrid interval addresses room in
-    let f = frame_answered refusal (50 + length addresses) k w.answer_is in
-    let passed = advertisement_passed vrid interval addresses room f.0 in
-    reads_back vrid priority interval primary room addresses v p i a b passed k before after f.1
-    (rw f.0 at w.room_is)
+    let none = sym w.refusal_is.number_is in
+    let passed = advertisement_passed vrid interval addresses room none in
+    reads_back vrid priority interval primary room addresses v p i a b passed k before after w.length_is
+    (rw none at w.room_is)

@@ -1,11 +1,11 @@
 -- The theorems of this crate, as statements: each is proved under the same name in proofs/Theorems.antt.
 use Rattle.std.specs.Prelude.{ℕ, ◌/◌, ◌<◌, ◌^◌, ◌≡◌, List, ◌∷◌, ◌++◌, true, ◌↔◌, length, take, drop}
 use Rattle.sums.specs.Sum.{Bytes}
-use Rattle.judging.specs.declared.Judged.{Judged}
-use Rattle.judging.specs.declared.Judged.TheVariants.{Accepted}
-use Rattle.rooms.specs.declared.Written.{Written}
-use Rattle.rooms.specs.declared.Written.TheVariants.{Frame}
+use Rattle.std.specs.Prelude.{Result, Ok}
+use Rattle.judging.specs.declared.Fields.{Fields}
+use Rattle.wire.specs.declared.refusal.Refusal.{Refusal}
 use Rattle.wire.specs.Check.{Check, Passes}
+use Rattle.wire.specs.Refusal.{numbered}
 use Rattle.judging.specs.Judging.{packet_checks, refusal_of, judged_of}
 use Rattle.writing.specs.Writing.{Wrote, AdvertisementWritten}
 
@@ -27,9 +27,9 @@ abbrev pub RoundTrip : Type 0
 RoundTrip =
     (vrid priority interval primary k : ℕ) (addresses before after : List ℕ)
     → vrid < 256 → priority < 256 → interval < 256 → primary < 2 ^ 32 → Bytes addresses
-    → AdvertisementWritten vrid priority interval primary addresses before (Frame k) after
+    → AdvertisementWritten vrid priority interval primary addresses before (Ok k) after
     → (judged_of (drop 14 (take k after))
-    ≡ Accepted
+    ≡ Ok
     (record {
       source = primary;
       vrid = vrid;
@@ -43,10 +43,11 @@ RoundTrip =
 
 -- two outcomes that the promise of judging allows are equal
 abbrev pub OneJudgement : Type 0
-OneJudgement = (packet : List ℕ) (a b : Judged) → a ≡ judged_of packet → b ≡ judged_of packet → a ≡ b
+OneJudgement =
+    (packet : List ℕ) (a b : Result Fields Refusal) → numbered a ≡ judged_of packet → numbered b ≡ judged_of packet → a ≡ b
 
 -- two outcomes that the promise of writing a frame allows are equal, for advertisement and ARP frames alike
 abbrev pub OneWriting : Type 0
 OneWriting =
-    (refusal need : ℕ) (frame before : List ℕ) (a b : Written) (after other : List ℕ)
+    (refusal need : ℕ) (frame before : List ℕ) (a b : Result ℕ Refusal) (after other : List ℕ)
     → Wrote refusal need frame before a after → Wrote refusal need frame before b other → (a ≡ b) × (after ≡ other)

@@ -16,10 +16,11 @@ pub struct Ticked {
 fn run(r: Router, primary: u32, ticks: u32) -> Ticked
     ensures { result ≡ (if nat_lt ticks r.timer then falls r ticks else fires primary r ticks) }
 {
-    let remaining = r.timer;
-    if ticks < remaining {
-        let mut router = r;
-        router.timer = remaining - ticks;
+    if ticks < r.timer {
+        let router = Router {
+            timer: r.timer - ticks,
+            ..r
+        };
         return Ticked {
             outcome: stay(router),
             leftover: 0,
@@ -27,21 +28,20 @@ fn run(r: Router, primary: u32, ticks: u32) -> Ticked
     }
     Ticked {
         outcome: step(r, primary, Event::Timer),
-        leftover: ticks - remaining,
+        leftover: ticks - r.timer,
     }
 }
 
 // A clock step: the timer falls, or fires once and the ticks left over are told. Initialize has no timer.
+#[tactic(auto, unfolding(crate::specs::Clock::ticked_of))]
 pub fn clock(r: Router, primary: u32, ticks: u32) -> Ticked
     ensures { result ≡ ticked_of primary r ticks }
 {
-    let state = r.state;
-    match state {
+    match r.state {
         State::Initialize => Ticked {
             outcome: stay(r),
             leftover: 0,
         },
-        State::Backup => run(r, primary, ticks),
-        State::Master => run(r, primary, ticks),
+        State::Backup | State::Master => run(r, primary, ticks),
     }
 }

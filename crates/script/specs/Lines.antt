@@ -1,8 +1,7 @@
 -- The lines that the rehearsal prints, in ASCII (01, 'The rehearsal program').
 use Rattle.std.specs.Prelude.{ℕ, ◌≤◌, ◌≡◌, Option, List, [], ◌∷◌, ◌++◌, map, cond, ltb, length, take}
 use Rattle.writing.specs.Writing.{over}
-use Rattle.states.specs.declared.record.State.{State}
-use Rattle.states.specs.declared.record.State.TheVariants.{Initialize, Backup, Master}
+pub use Rattle.states.specs.Letter.{letter_of}
 use Rattle.text.specs.Digits.{decimal_of}
 use Rattle.station.specs.declared.station.Station.{Station}
 use Rattle.script.specs.Segment.{Segment}
@@ -14,12 +13,6 @@ pub record Printed (text before : List ℕ) (written : ℕ) (after : List ℕ) :
   pub written_is : written ≡ length text
   pub room_is : after ≡ over text before
   pub fits : length text ≤ length before
-
--- "a letter I, B or M"
-abbrev pub letter_of : State → ℕ
-letter_of Initialize = 73
-letter_of Backup = 66
-letter_of Master = 77
 
 -- "per station", of which so many are used
 unfoldable pub letters_of : ℕ → List Station → List ℕ

@@ -20,11 +20,10 @@ use Rattle.router.specs.Clock.{ticked_of}
 use Rattle.router.specs.Accept.{router_refusal}
 use Rattle.states.specs.declared.record.State.{State}
 use Rattle.states.specs.declared.record.State.TheVariants.{Initialize, Backup, Master}
-use Rattle.places.specs.declared.place.Found.{Found}
-use Rattle.places.specs.declared.place.Found.TheVariants.{At, Nothing}
+use Rattle.places.specs.Place.{Found, record_at, set_record, set_event, count_at_place, place_from, place_of, primary_of}
+use Rattle.std.specs.Prelude.{Some, None}
 use Rattle.wire.specs.Check.{first_refusal}
 use Rattle.places.specs.Layout.{decode_of, encode_of}
-use Rattle.places.specs.Place.{record_at, set_record, set_event, count_at_place, place_from, place_of, primary_of}
 use Rattle.events.specs.Lists.{list_at, set_list, their_list, lists_match}
 use Rattle.events.specs.Result.{router_place, acted_of}
 use Rattle.configuring.specs.Configuring.{is_found, place_in, empty_of, new_router, configure_refusal}
@@ -38,11 +37,11 @@ use Rattle.segment.specs.Examples.{Kind, idle, waiting, leading}
 use Rattle.segment.specs.Examples.{deliver, states_of, exchanged, two_masters, Needed}
 
 -- an empty table has no router 1, and its lowest free place is the first
-nowhere : (primary : ℕ) → place_of (empty_of primary) 1 ≡ Nothing
+nowhere : (primary : ℕ) → place_of (empty_of primary) 1 ≡ None
 unfolding empty_of place_of place_from
 nowhere primary = refl
 
-first_free : (primary : ℕ) → place_of (empty_of primary) 0 ≡ At 0
+first_free : (primary : ℕ) → place_of (empty_of primary) 0 ≡ Some 0
 unfolding empty_of place_of place_from
 first_free primary = refl
 
@@ -73,16 +72,16 @@ made_by refusal free primary priority interval addresses =
     }
 
 refused_none : (primary priority interval : ℕ) (addresses : List ℕ)
-    → checked Nothing (At 0) priority interval addresses ≡ 0
+    → checked None (Some 0) priority interval addresses ≡ 0
     → configure_refusal (empty_of primary) 1 priority interval addresses ≡ 0
 unfolding configure_refusal
 refused_none primary priority interval addresses e =
     ap (λ (f : Found). checked f (place_of (empty_of primary) 0) priority interval addresses) (nowhere primary)
-    ∙ ap (λ (f : Found). checked Nothing f priority interval addresses) (first_free primary)
+    ∙ ap (λ (f : Found). checked None f priority interval addresses) (first_free primary)
     ∙ e
 
 configured_first : (primary priority interval : ℕ) (addresses : List ℕ) (calls : List Call)
-    → checked Nothing (At 0) priority interval addresses ≡ 0
+    → checked None (Some 0) priority interval addresses ≡ 0
     → configured primary priority interval addresses calls ≡ after (first_of primary priority interval addresses) calls
 configured_first primary priority interval addresses calls e =
     let r = refused_none primary priority interval addresses e in
@@ -123,7 +122,7 @@ computed = record { owners = refl; primary = refl; interval = refl; list = refl;
 both : (f : Memory → Memory → List State) {a c b d : Memory} → a ≡ c → b ≡ d → f c d ≡ two_masters → f a b ≡ two_masters
 both f {a} {c} {b} {d} e g h = ap (λ (m : Memory). f m b) e ∙ ap (λ (m : Memory). f c m) g ∙ h
 
-leading_first : (primary interval : ℕ) (addresses : List ℕ) → checked Nothing (At 0) 100 interval addresses ≡ 0
+leading_first : (primary interval : ℕ) (addresses : List ℕ) → checked None (Some 0) 100 interval addresses ≡ 0
     → configured primary 100 interval addresses taken_over ≡ after (first_of primary 100 interval addresses) taken_over
 leading_first primary interval addresses e = configured_first primary 100 interval addresses taken_over e
 
@@ -183,7 +182,7 @@ module _ (primary : ℕ) where
   plain_first waiting = (refl, refl, refl, refl, refl, refl)
   plain_first leading = (refl, refl, refl, refl, refl, refl)
 
-  checked_first : checked Nothing (At 0) 100 1 virtual_address ≡ 0
+  checked_first : checked None (Some 0) 100 1 virtual_address ≡ 0
   unfolding address_bytes_wrong
   checked_first = refl
 

@@ -10,7 +10,7 @@ use lib.ListN.{length, take, drop}
 use borrow.Author.Tests.{eq-eqb, ne_eqb, le-ltb}
 use Rattle.sums.specs.Sum.{Bytes}
 use Rattle.judging.specs.declared.Fields.{Fields}
-use Rattle.judging.specs.declared.Judged.TheVariants.{Accepted}
+use Rattle.std.specs.Prelude.{Ok}
 use Rattle.writing.specs.Frame.{message_of, packet_of}
 use Rattle.judging.specs.Judging.{judged_of}
 use Rattle.writing.specs.Writing.{address_bytes_wrong}
@@ -83,7 +83,7 @@ module _ (vrid interval : ℕ) (addresses : List ℕ) (q source : ℕ) where
     fit : Writable addresses (50 + length addresses)
     fit = frame_fits addresses listed
 
-    pub judged : judged_of told ≡ Accepted said
+    pub judged : judged_of told ≡ Ok said
     unfolding message_of
     judged = accepted vrid q interval source (50 + length addresses) addresses v p i s bytes fit
 

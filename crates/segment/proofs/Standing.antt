@@ -9,9 +9,8 @@ use lib.Dec.{eqb}
 use lib.ListN.{get_or}
 use Rattle.states.specs.declared.record.Router.{Router}
 use Rattle.router.specs.Timed.{Timed}
-use Rattle.places.specs.declared.place.Found.{Found}
-use Rattle.places.specs.declared.place.Found.TheVariants.{At, Nothing}
-use Rattle.places.specs.Place.{base_of, record_at}
+use Rattle.places.specs.Place.{Found, base_of, record_at}
+use Rattle.std.specs.Prelude.{Some, None}
 use Rattle.places.proofs.Beside.{beside_first, beside_primary}
 use Rattle.events.specs.Lists.{list_at}
 use Rattle.events.specs.Result.{router_place}
@@ -27,7 +26,7 @@ use Rattle.segment.specs.Segment.{router_of, addresses_of, primary_address}
 -- how a station stands on a segment, whatever state it is in
 pub record On (vrid interval : ℕ) (addresses : List ℕ) (primary priority : ℕ) (m : Memory) : Type 0 where
   pub held : Held m.words
-  pub found : router_place m.words vrid ≡ At (place_for m.words vrid)
+  pub found : router_place m.words vrid ≡ Some (place_for m.words vrid)
   pub interval_is : (router_of vrid m).interval ≡ interval
   pub addresses_are : addresses_of vrid m ≡ addresses
   pub primary_is : primary_address m ≡ primary
@@ -52,9 +51,9 @@ module _ (vrid interval : ℕ) (addresses : List ℕ) (primary priority : ℕ) (
       × ((router_of vrid m).count ≤ 16)
   on_configured = on_sound.configured on_used
 
-pub found_is : (f : Found) → is_found f ≡ true → f ≡ At (place_in f)
-found_is (At p) e = refl
-found_is Nothing e = absurd (let z : ◌≡◌ {A = ℕ} 0 1 = cc in omega arith)
+pub found_is : (f : Found) → is_found f ≡ true → f ≡ Some (place_in f)
+found_is (Some p) e = refl
+found_is None e = absurd (let z : ◌≡◌ {A = ℕ} 0 1 = cc in omega arith)
 
 -- where the segment's router changes and nothing else does, the station stands where it stood
 module _ (vrid interval : ℕ) (addresses : List ℕ) (primary priority : ℕ) (m : Memory)
@@ -88,7 +87,7 @@ module _ (vrid interval : ℕ) (addresses : List ℕ) (primary priority : ℕ) (
         held =
             changed_held m.words words on.held place (word vrid interval addresses primary priority m on).0
             (on_used vrid interval addresses primary priority m on) r changed timed;
-        found = found_same ∙ on.found ∙ ap At (sym place_is);
+        found = found_same ∙ on.found ∙ ap Some (sym place_is);
         interval_is = ap (λ (x : Router). x.interval) changed_router ∙ changed.kept.interval ∙ on.interval_is;
         addresses_are = same_list ∙ on.addresses_are;
         primary_is = beside_primary place m.words words changed.beside ∙ on.primary_is;

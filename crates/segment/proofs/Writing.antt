@@ -17,7 +17,7 @@ use Rattle.router.specs.Clock.{ticked_in, ticked_of}
 use Rattle.places.specs.Place.{primary_of, record_at}
 use Rattle.output.specs.Output.{bytes_of}
 use Rattle.output.proofs.Lengths.{frame_length}
-use Rattle.places.specs.declared.place.Found.TheVariants.{At}
+use Rattle.std.specs.Prelude.{Some}
 use Rattle.states.specs.declared.step.Writes.TheVariants.{Advertisement}
 use Rattle.events.specs.Lists.{list_at}
 use Rattle.events.specs.Result.{Result, router_place, acted_of}
@@ -45,7 +45,7 @@ unfolding ticked_of
 fires primary r ticks m h = fires_in_lem r.state primary r ticks refl m h
 
 -- the room after the clock step that fires
-fired_room : (words lists : List ℕ) (v p ticks : ℕ) (room : List ℕ) → router_place words v ≡ At p
+fired_room : (words lists : List ℕ) (v p ticks : ℕ) (room : List ℕ) → router_place words v ≡ Some p
     → (record_at words p).state ≡ Master → (record_at words p).timer ≤ ticks → 50 + 4 * (record_at words p).count ≤ length room
     → (clocked_of words lists v ticks room).room
     ≡ over (bytes_of Advertisement (record_at words p) (primary_of words) (list_at lists p (record_at words p).count)) room

@@ -1,8 +1,7 @@
 -- One Master remains (01, demand 3), and what a bench asks next. Each statement is proved in proofs/Theorems.antt or,
 -- from what a Master writes on, in proofs/Writing.antt.
-use Rattle.std.specs.Prelude.{ℕ, ◌+◌, ◌≤◌, ◌<◌, ◌≡◌, List, true, length, take, drop}
+use Rattle.std.specs.Prelude.{ℕ, ◌+◌, ◌≤◌, ◌<◌, ◌≡◌, List, true, length, take, drop, Ok}
 use Rattle.judging.specs.declared.Fields.{Fields}
-use Rattle.judging.specs.declared.Judged.TheVariants.{Accepted}
 use Rattle.judging.specs.Judging.{judged_of}
 use Rattle.events.specs.Result.{router_place}
 use Rattle.events.specs.Events.{clocked_of}
@@ -73,7 +72,7 @@ OwnWriting =
 -- the advertisement reads back with the router's priority, which is not 0: it is no farewell
 pub record ReadsBack (vrid : ℕ) (m : Memory) : Type 0 where
   pub fields : Fields
-  pub accepted : judged_of (advertisement_of vrid m) ≡ Accepted fields
+  pub accepted : judged_of (advertisement_of vrid m) ≡ Ok fields
   pub priority_is : fields.priority ≡ (router_of vrid m).priority
   pub some : 1 ≤ fields.priority
 

@@ -1,3 +1,4 @@
 pub mod Timers
 pub mod Step
 pub mod Turn
+pub mod Letter

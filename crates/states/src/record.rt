@@ -1,11 +1,27 @@
 // The record of one virtual router.
+ghost use Rattle.std.specs.Prelude.{◌≡◌};
+ghost use Rattle.states.specs.Letter.{letter_of};
+
 use crate::step::Writes;
 
-#[derive(Clone, Copy)]
+#[derive(Clone, Copy, Debug, PartialEq, Eq)]
 pub enum State {
     Initialize,
     Backup,
     Master,
+}
+
+impl State {
+    // The letter by which it is printed.
+    pub fn letter(self) -> u8
+        ensures { result ≡ letter_of self }
+    {
+        match self {
+            State::Initialize => b'I',
+            State::Backup => b'B',
+            State::Master => b'M',
+        }
+    }
 }
 
 // The counts of a router, each a 32-bit counter that goes from its greatest value to 0.

@@ -5,7 +5,7 @@ ghost use Rattle.states.specs.Step.{stays, waits, hurries, stops, advertises, ta
 ghost use Rattle.states.specs.Step.{heard_by_backup, heard_by_master, step_of};
 ghost use Rattle.states.specs.Turn.{turn_of, became_by, applied_to};
 
-use crate::record::{Router, State, Turn};
+use crate::record::{Counts, Router, State, Turn};
 use crate::timers::{advertisement_interval, master_down, skew};
 
 #[derive(Clone, Copy)]
@@ -38,11 +38,7 @@ pub fn state_number(state: State) -> u32
     ensures number { result ≡ state_number state }
     ensures bound { result ≤ 2 }
 {
-    match state {
-        State::Initialize => 0,
-        State::Backup => 1,
-        State::Master => 2,
-    }
+    state as u32
 }
 
 fn event_number(event: Event) -> u32
@@ -62,9 +58,7 @@ fn event_priority(event: Event, priority: u8) -> u8
     ensures { result ≡ event_priority event priority }
 {
     match event {
-        Event::Startup => priority,
-        Event::Shutdown => priority,
-        Event::Timer => priority,
+        Event::Startup | Event::Shutdown | Event::Timer => priority,
         Event::Packet(theirs, _) => theirs,
     }
 }
@@ -73,9 +67,7 @@ fn event_source(event: Event) -> u32
     ensures { result ≡ event_source event }
 {
     match event {
-        Event::Startup => 0,
-        Event::Shutdown => 0,
-        Event::Timer => 0,
+        Event::Startup | Event::Shutdown | Event::Timer => 0,
         Event::Packet(_, source) => source,
     }
 }
@@ -94,9 +86,8 @@ pub fn stay(r: Router) -> Outcome
 fn no_change(r: Router) -> Turn
     ensures { result ≡ turn_of (stays r) }
 {
-    let state = r.state;
     Turn {
-        state: state,
+        state: r.state,
         timer: r.timer,
         writes: Writes::Nothing,
     }
@@ -117,9 +108,10 @@ fn wait(r: Router) -> Turn
 fn hurry(r: Router) -> Turn
     ensures { result ≡ turn_of (hurries r) }
 {
-    let mut t = wait(r);
-    t.timer = skew(r.priority);
-    t
+    Turn {
+        timer: skew(r.priority),
+        ..wait(r)
+    }
 }
 
 // Initialize, with no timer.
@@ -129,7 +121,7 @@ fn stop(r: Router, writes: Writes) -> Turn
     Turn {
         state: State::Initialize,
         timer: 0,
-        writes: writes,
+        writes,
     }
 }
 
@@ -176,13 +168,13 @@ fn hear_as_master(r: Router, primary: u32, theirs: u8, source: u32) -> Turn
 }
 
 // What one event changes of one router. A row's number is 0xSEPP: state, event, and the priority that it turns on.
+// Kept: the table stands as one match on these numbers, with ranges for the priorities 0, 1 to 254 and 255.
 pub fn turn(r: Router, primary: u32, event: Event) -> Turn
     ensures { result ≡ turn_of (step_of primary r event) }
 {
-    let state = r.state;
     let theirs = event_priority(event, r.priority);
     let source = event_source(event);
-    let row = 4096 * state_number(state) + 256 * event_number(event) + theirs as u32;
+    let row = 4096 * state_number(r.state) + 256 * event_number(event) + u32::from(theirs);
     match row {
         // Initialize: startup, P = 255; startup, P < 255
         0x00FF => take_over(r),
@@ -206,10 +198,8 @@ fn became_by(writes: Writes, became: u32) -> u32
     ensures { result ≡ became_by writes became }
 {
     match writes {
-        Writes::Nothing => became,
-        Writes::Advertisement => became,
-        Writes::Farewell => became,
-        Writes::Takeover => std::num::wrapping_add_u32(became, 1),
+        Writes::Nothing | Writes::Advertisement | Writes::Farewell => became,
+        Writes::Takeover => became.wrapping_add(1),
     }
 }
 
@@ -217,23 +207,18 @@ fn became_by(writes: Writes, became: u32) -> u32
 pub fn applied(r: Router, t: Turn) -> Outcome
     ensures { result ≡ applied_to r t }
 {
-    let state = t.state;
-    let writes = t.writes;
-    let mut counts = r.counts;
-    counts.became = became_by(writes, counts.became);
-    let router = Router {
-        vrid: r.vrid,
-        priority: r.priority,
-        interval: r.interval,
-        preempt: r.preempt,
-        state: state,
-        timer: t.timer,
-        count: r.count,
-        counts: counts,
+    let counts = Counts {
+        became: became_by(t.writes, r.counts.became),
+        ..r.counts
     };
     Outcome {
-        router: router,
-        writes: writes,
+        router: Router {
+            state: t.state,
+            timer: t.timer,
+            counts,
+            ..r
+        },
+        writes: t.writes,
     }
 }
 

@@ -2,29 +2,26 @@
 ghost use Rattle.std.specs.Prelude.{◌≡◌};
 ghost use Rattle.states.specs.Timers.{skew_of, master_down_of, advertisement_interval_of};
 
-fn wide(byte: u8) -> u32
-    ensures { result ≡ byte }
-{
-    byte as u32
-}
-
 // How long a Backup waits after a Master has left.
+#[tactic(auto, unfolding(crate::specs::Timers::skew_of))]
 pub fn skew(priority: u8) -> u32
     ensures { result ≡ skew_of priority }
 {
-    256 - wide(priority)
+    256 - u32::from(priority)
 }
 
 // How long a Backup waits for a Master that is silent.
+#[tactic(auto, unfolding(crate::specs::Timers::skew_of, crate::specs::Timers::master_down_of))]
 pub fn master_down(priority: u8, interval: u8) -> u32
     ensures { result ≡ master_down_of priority interval }
 {
-    768 * wide(interval) + skew(priority)
+    768 * u32::from(interval) + skew(priority)
 }
 
 // How long a Master waits between advertisements.
+#[tactic(auto, unfolding(crate::specs::Timers::advertisement_interval_of))]
 pub fn advertisement_interval(interval: u8) -> u32
     ensures { result ≡ advertisement_interval_of interval }
 {
-    256 * wide(interval)
+    256 * u32::from(interval)
 }

@@ -9,9 +9,8 @@ use lib.Dec.{eqb, ltb}
 use lib.ListN.{length, drop}
 use lib.Seq.{take-append_seam}
 use borrow.Author.Tests.{ne_eqb}
-use Rattle.judging.specs.declared.Judged.{Judged}
-use Rattle.judging.specs.declared.Judged.TheVariants.{Accepted, Refused}
-use Rattle.judging.specs.Judging.{judged_of}
+use Rattle.judging.specs.Judging.{Judged, judged_of}
+use Rattle.std.specs.Prelude.{Ok, Err}
 use Rattle.writing.specs.Frame.{frame_of}
 use Rattle.states.specs.declared.record.State.TheVariants.{Master}
 use Rattle.states.specs.declared.record.Router.{Router}
@@ -147,8 +146,8 @@ module _ (s : Station) where
       record { router = (rests s).router; primary_is = refl; addresses_are = refl; latest = λ h. h }
 
   judged_onward : (j : Judged) (packet room : List ℕ) → Onward s (judged_by j s packet room).station
-  judged_onward (Refused number) packet room = counted_onward number
-  judged_onward (Accepted f) packet room =
+  judged_onward (Err number) packet room = counted_onward number
+  judged_onward (Ok f) packet room =
       let number = refusal_by s packet f in
       let refused = refused_of s.router number in
       let r = accepted_of s.router in

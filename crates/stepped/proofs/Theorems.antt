@@ -12,7 +12,7 @@ use Rattle.writing.specs.Writing.{address_bytes_wrong}
 use Rattle.writing.proofs.Writes.{frame_fits}
 use Rattle.states.specs.declared.record.Router.{Router}
 use Rattle.states.specs.declared.record.State.TheVariants.{Master}
-use Rattle.places.specs.declared.place.Found.TheVariants.{At}
+use Rattle.std.specs.Prelude.{Some}
 use Rattle.events.specs.Result.{router_place}
 use Rattle.configuring.specs.Configuring.{is_found, new_router}
 use Rattle.histories.specs.Histories.{configure, Memory, called, after, begun}
@@ -104,7 +104,7 @@ module _ (vrid interval : ℕ) (addresses : List ℕ) (s : Station) (c : Lived v
       (subst Latest (sym before_fresh) (fresh_latest vrid c.priority interval c.preempt c.primary addresses c.taken))
 
   -- the table's router is the station's
-  place_is : router_place (words_of s) vrid ≡ At 0
+  place_is : router_place (words_of s) vrid ≡ Some 0
   place_is =
       let named = made_named vrid c.priority interval c.preempt c.primary addresses c.taken in
       ap (router_place (words_of s)) (sym on.0) ∙ found_first s formed (λ z. named (sym on.0 ∙ z))

@@ -3,10 +3,8 @@
 use mathlib.Core.Path.{◌≡◌, sym, ap, ◌∙◌}
 use mathlib.Core.List.{List, [], ◌∷◌, ◌++◌}
 use Prim.Native.Nat.{ℕ, zero, suc, ◌+◌, ◌*◌, ◌≤◌}
-use native.Mathlib.Numerals.{add-one, add-two, add-three, add-four}
 use native.Mathlib.Omega.{arith}
-use lib.ListN.{length, get_or, drop, drop_of_length-le}
-use lib.Seq.{drop-cons}
+use lib.ListN.{length}
 use Rattle.sums.specs.Sum.{plus, sum_of, Bytes}
 use Rattle.sums.specs.Number.{number_of}
 use Rattle.sums.specs.Total.{total, folded}
@@ -26,7 +24,7 @@ high_folded h a =
     let e : 65536 * h ≡ h + 65535 * h = omega arith in
     sym (ap folded e ∙ folded_more h h (omega arith) ∙ folded_small h a)
 
-tail_bytes : {a b c d : ℕ} (r : List ℕ) → Bytes (a ∷ (b ∷ (c ∷ (d ∷ r)))) → Bytes r
+pub tail_bytes : {a b c d : ℕ} (r : List ℕ) → Bytes (a ∷ (b ∷ (c ∷ (d ∷ r)))) → Bytes r
 tail_bytes r k i = k (suc (suc (suc (suc i))))
 
 -- the one's complement sum is the plain sum, folded
@@ -51,23 +49,6 @@ sum_folded (a ∷ (b ∷ (c ∷ (d ∷ r)))) k =
     ap (λ (x : ℕ). plus (256 * a + b) (plus (256 * c + d) x)) (sum_folded r (tail_bytes r k))
     ∙ pair_folded (256 * a + b) (256 * c + d) (total r) (omega (arith, k 0, k 1)) (omega (arith, k 2, k 3))
     ∙ ap folded e
-
--- past the end there is nothing to sum
-pub total_past : (s : List ℕ) (i : ℕ) → length s ≤ i → total (drop i s) ≡ 0
-unfolding total
-total_past s i h = ap total (drop_of_length-le s h)
-
--- four bytes of a list, and the total of what is after them
-pub total_drop : (s : List ℕ) (i : ℕ) → i + 4 ≤ length s
-    → total (drop i s)
-    ≡ number_of (get_or s i 0) (get_or s (i + 1) 0) (get_or s (i + 2) 0) (get_or s (i + 3) 0) + total (drop (i + 4) s)
-unfolding total
-total_drop s i h =
-    let a = drop-cons s i 0 (omega arith) in
-    let b = drop-cons s (suc i) 0 (omega arith) in
-    let c = drop-cons s (suc (suc i)) 0 (omega arith) in
-    let d = drop-cons s (suc (suc (suc i))) 0 (omega arith) in
-    simp (add-one, add-two, add-three, add-four) (rw (a, b, c, d))
 
 -- the total of a concatenation, where the first list fills its last number
 pub total_append : (k : ℕ) (s t : List ℕ) → length s ≡ 4 * k → total (s ++ t) ≡ total s + total t

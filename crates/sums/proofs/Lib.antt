@@ -3,3 +3,4 @@ pub mod Folding
 pub mod Laws
 pub mod Checksum
 pub mod Theorems
+pub mod Numbers

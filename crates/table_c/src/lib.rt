@@ -3,25 +3,13 @@
 
 ghost use Rattle.std.specs.Prelude.{◌≡◌};
 ghost use Rattle.states.specs.declared.step.Event.TheVariants.{Startup};
-ghost use Rattle.events.specs.Result.{answer_of};
 ghost use Rattle.configuring.specs.Configuring.{empty_of, Configured};
 ghost use Rattle.events.specs.Events.{happened_of, clocked_of};
 ghost use Rattle.packets.specs.Packets.{heard_of};
 ghost use Rattle.table_c.specs.Numbered.{Numbered};
 
-use events::answer::Answered;
 use table::calls::{clock, configure, empty, packet, startup};
-
-// The number of an answer, without the bytes written, the ticks left over and the room that is needed.
-fn number_of(answered: Answered) -> u32
-    ensures { result ≡ (answer_of answered).number }
-{
-    match answered {
-        Answered::Done(_, _) => 0,
-        Answered::Refused(number) => number,
-        Answered::Short(_) => 22,
-    }
-}
+use wire::refusal::number_of;
 
 // Makes an empty table of an interface with this primary address.
 #[unsafe(no_mangle)]
@@ -45,7 +33,7 @@ pub extern "C" fn table_configure(
     ensures { Configured words.old lists.old vrid priority interval preempt
         addresses.now result words.new lists.new }
 {
-    configure(words, lists, vrid, priority, interval, preempt, addresses)
+    number_of(configure(words, lists, vrid, priority, interval, preempt, addresses))
 }
 
 // Starts a virtual router up: 0, 20 or 22.

@@ -3,34 +3,20 @@
 
 ghost use Rattle.std.specs.Prelude.{◌≡◌};
 ghost use Rattle.judging.specs.Judging.{refusal_of};
-ghost use Rattle.writing.specs.Writing.{written_number};
 ghost use Rattle.vrrp_c.specs.Answer.{AdvertisementAnswered, ArpAnswered};
 
-use judging::{Judged, judge};
-use rooms::Written;
+use judging::judge;
+use wire::refusal::number_of;
 use writing::arp::write_arp;
 use writing::frame::write_advertisement;
 
-// The number of an answer, without the room that is needed.
-fn number_of(written: Written) -> u32
-    ensures { result ≡ written_number written }
-{
-    match written {
-        Written::Frame(_) => 0,
-        Written::Refused(number) => number,
-        Written::Short(_) => 22,
-    }
-}
-
 // Judges a packet: 0, or the first of refusals 1 to 8.
+#[tactic(auto, using(judging::proofs::Passing::number_judged))]
 #[unsafe(no_mangle)]
 pub extern "C" fn vrrp_judge(packet: &[u8]) -> u32
     ensures { result ≡ refusal_of packet.now }
 {
-    match judge(packet) {
-        Judged::Accepted(_) => 0,
-        Judged::Refused(number) => number,
-    }
+    number_of(judge(packet))
 }
 
 // Writes an advertisement frame: 0, or the first of refusals 14, 16, 17 and 22 with `out` as it was.

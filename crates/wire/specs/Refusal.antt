@@ -1,5 +1,5 @@
 -- The numbers of the refusals (01, 'Refusal numbers' and 'The rehearsal program').
-use Rattle.std.specs.Prelude.{ℕ, Result, Ok, Err}
+use Rattle.std.specs.Prelude.{ℕ, ◌≡◌, cond, eqb, Result, Ok, Err}
 use Rattle.wire.specs.declared.refusal.Refusal.{Refusal}
 use Rattle.wire.specs.declared.refusal.Refusal.TheVariants.{IpHeader, IpChecksum, NotOurs, Ttl, Version, TooShort, Checksum, MessageType}
 use Rattle.wire.specs.declared.refusal.Refusal.TheVariants.{UnknownVrid, AddressOwner, Authentication, AddressList, OtherInterval}
@@ -54,3 +54,13 @@ number_answered (Err refusal) = refusal_number refusal
 abbrev pub numbered : {T : Type 0} → Result T Refusal → Result T ℕ
 numbered (Ok value) = Ok value
 numbered (Err refusal) = Err (refusal_number refusal)
+
+-- the room that an answer says is needed, 0 where it says none
+abbrev pub room_answered : {T : Type 0} → Result T Refusal → ℕ
+room_answered (Ok value) = 0
+room_answered (Err refusal) = room_needed refusal
+
+-- "A refusal answers its number, 22 also with the room needed": what an answer tells, by its refusal, 0 for none
+pub record Tells (refusal need : ℕ) {T : Type 0} (answer : Result T Refusal) : Type 0 where
+  pub number_is : number_answered answer ≡ refusal
+  pub needed_is : room_answered answer ≡ cond (eqb refusal 22) need 0

@@ -26,18 +26,17 @@ module _ (vrid priority interval : ℕ) (addresses : List ℕ) where
   unfolding total
   message_total h = omega (arith, total_append (length addresses / 4) addresses (replicate 8 0) (omega arith))
 
-  pub message_sum : (plain fold : ℕ)
-      → (length addresses % 4 ≡ 0) × (length addresses ≤ 1020) × (vrid < 256) × (priority < 256) × (interval < 256)
-      → Bytes addresses → fold ≡ folded plain
+  pub message_sum : (plain : ℕ)
+      → length addresses % 4 ≡ 0 → length addresses ≤ 1020 → vrid < 256 → priority < 256 → interval < 256 → Bytes addresses
       → plain ≡ number_of 0x21 vrid priority (length addresses / 4) + number_of 0 interval 0 0 + total addresses
-      → 65535 - fold ≡ message_checksum vrid priority interval addresses
+      → 65535 - folded plain ≡ message_checksum vrid priority interval addresses
   unfolding message_checksum
-  message_sum plain fold h s f e =
+  message_sum plain h l v p i s e =
       let list = with_field (message_start vrid priority interval addresses) 0 (message_end addresses) in
-      let t : plain ≡ total list = omega (arith, message_total h.0) in
+      let t : plain ≡ total list = omega (arith, message_total h) in
       let start : List ℕ = 0x21 ∷ (vrid ∷ (priority ∷ (length addresses / 4 ∷ (0 ∷ (interval ∷ (0 ∷ (0 ∷ []))))))) in
       let bytes = bytes_append start (message_end addresses) (bytes_each start (omega arith)) (end_bytes addresses s) in
-      rw (f, t, sum_folded list bytes)
+      rw (t, sum_folded list bytes)
 
 module _ (primary : ℕ) (addresses : List ℕ) (p : primary < 4294967296) (l : length addresses ≤ 65499) where
   header_total : total (with_field (header_start addresses) 0 (header_end primary))
@@ -45,10 +44,10 @@ module _ (primary : ℕ) (addresses : List ℕ) (p : primary < 4294967296) (l : 
   unfolding total
   header_total = omega (arith, number_of_bytes primary)
 
-  pub header_sum : (plain fold : ℕ) → fold ≡ folded plain
+  pub header_sum : (plain : ℕ)
       → plain ≡ 0x45000000 + 0x00004000 + 0xFF700000 + 0xE0000012 + 36 + length addresses + primary
-      → 65535 - fold ≡ header_checksum primary addresses
+      → 65535 - folded plain ≡ header_checksum primary addresses
   unfolding header_checksum
-  header_sum plain fold f e =
+  header_sum plain e =
       let list = with_field (header_start addresses) 0 (header_end primary) in
-      rw (f, e, ← header_total, sum_folded list (bytes_each list (omega arith)))
+      rw (e, ← header_total, sum_folded list (bytes_each list (omega arith)))

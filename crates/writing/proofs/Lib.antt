@@ -1,4 +1,3 @@
 pub mod Checksums
-pub mod SameBytes
 pub mod Pasting
 pub mod Writes

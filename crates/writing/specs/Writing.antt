@@ -1,8 +1,9 @@
 -- Direct writing into a room that the caller lends: the refusals, the answer and every byte of the room.
 use Rattle.std.specs.Prelude.{ℕ, ◌+◌, ◌%◌, ◌≡◌, List, [], ◌∷◌, ◌++◌, Bool, cond, not, ◌||◌, ltb, eqb, length, drop}
-use Rattle.rooms.specs.declared.Written.{Written}
-use Rattle.rooms.specs.declared.Written.TheVariants.{Frame, Refused, Short}
+use Rattle.std.specs.Prelude.{Result, IfOk}
+use Rattle.wire.specs.declared.refusal.Refusal.{Refusal}
 use Rattle.wire.specs.Check.{Check, first_refusal}
+use Rattle.wire.specs.Refusal.{Tells}
 use Rattle.writing.specs.Frame.{frame_of}
 use Rattle.writing.specs.Arp.{arp_of}
 
@@ -30,16 +31,6 @@ arp_checks vrid room = (14, eqb vrid 0) ∷ ((22, ltb room 42) ∷ [])
 unfoldable pub arp_refusal : ℕ → ℕ → ℕ
 arp_refusal vrid room = first_refusal (arp_checks vrid room)
 
--- "A refusal answers its number, 22 also with the room needed"; a success with the bytes written
-abbrev pub answer_of : ℕ → ℕ → Written
-answer_of refusal need = cond (eqb refusal 0) (Frame need) (cond (eqb refusal 22) (Short need) (Refused refusal))
-
--- 01's number for an answer
-abbrev pub written_number : Written → ℕ
-written_number (Frame bytes) = 0
-written_number (Refused number) = number
-written_number (Short need) = 22
-
 -- bytes at the start of a room, over what stood there
 abbrev pub over : List ℕ → List ℕ → List ℕ
 over bytes room = bytes ++ drop (length bytes) room
@@ -49,17 +40,18 @@ abbrev pub room_after : ℕ → List ℕ → List ℕ → List ℕ
 room_after refusal frame room = cond (eqb refusal 0) (over frame room) room
 
 -- the promise of writing a frame into a room, by its refusal: the answer, and the whole room
-pub record Wrote (refusal need : ℕ) (frame before : List ℕ) (answer : Written) (after : List ℕ) : Type 0 where
-  pub answer_is : answer ≡ answer_of refusal need
+pub record Wrote (refusal need : ℕ) (frame before : List ℕ) (answer : Result ℕ Refusal) (after : List ℕ) : Type 0 where
+  pub refusal_is : Tells refusal need answer
+  pub length_is : IfOk answer (λ length. length ≡ need)
   pub room_is : after ≡ room_after refusal frame before
 
 -- writing an advertisement frame of 50 + 4n bytes
-abbrev pub AdvertisementWritten : ℕ → ℕ → ℕ → ℕ → List ℕ → List ℕ → Written → List ℕ → Type 0
+abbrev pub AdvertisementWritten : ℕ → ℕ → ℕ → ℕ → List ℕ → List ℕ → Result ℕ Refusal → List ℕ → Type 0
 AdvertisementWritten vrid priority interval primary addresses before answer after =
     Wrote (advertisement_refusal vrid interval addresses (length before)) (50 + length addresses)
     (frame_of vrid priority interval primary addresses) before answer after
 
 -- writing a gratuitous ARP frame of 42 bytes
-abbrev pub ArpWritten : ℕ → ℕ → List ℕ → Written → List ℕ → Type 0
+abbrev pub ArpWritten : ℕ → ℕ → List ℕ → Result ℕ Refusal → List ℕ → Type 0
 ArpWritten vrid address before answer after =
     Wrote (arp_refusal vrid (length before)) 42 (arp_of vrid address) before answer after

@@ -1,10 +1,11 @@
 // The gratuitous ARP frame.
 ghost use Rattle.std.specs.Prelude.{◌≡◌, ◌≤◌, length};
+ghost use Rattle.wire.specs.Refusal.{Tells};
 ghost use Rattle.writing.specs.Arp.{arp_start, arp_end, arp_of};
 ghost use Rattle.writing.specs.Writing.{over, arp_refusal, ArpWritten};
 
-use rooms::bytes::{lowest, second, third, top};
-use rooms::{Written, put};
+use rooms::put;
+use wire::refusal::Refusal;
 
 // The frame up to its operation: nothing in it but the VRID varies.
 fn arp_head(vrid: u8) -> [u8; 22]
@@ -22,10 +23,7 @@ fn arp_tail(vrid: u8, address: u32) -> [u8; 20]
     ensures bytes { result ≡ arp_end vrid address }
     ensures long { 20 ≡ length result }
 {
-    let a = top(address);
-    let b = second(address);
-    let c = third(address);
-    let d = lowest(address);
+    let [a, b, c, d] = address.to_be_bytes();
     [
         0x00, 0x00, 0x5E, 0x00, 0x01, vrid, a, b, c, d, 0, 0, 0, 0, 0, 0, a, b, c, d,
     ]
@@ -36,37 +34,31 @@ pub fn put_arp(vrid: u8, address: u32, room: &mut [u8])
     requires { 42 ≤ length room.old }
     ensures { room.new ≡ over (arp_of vrid address) room.old }
 {
-    let head = arp_head(vrid);
-    let tail = arp_tail(vrid, address);
-    put(room, 0, &head);
-    put(room, 22, &tail)
+    put(room, 0, &arp_head(vrid));
+    put(room, 22, &arp_tail(vrid, address))
 }
 
-// The refusal of writing one ARP frame: 14, 22 in that order, or 0.
-fn arp_refusal(vrid: u8, room: usize) -> u32
-    ensures { result ≡ arp_refusal vrid room }
+// The first of refusals 14 and 22 of writing one ARP frame that holds.
+#[tactic(auto, unfolding(crate::specs::Writing::arp_refusal))]
+fn arp_refusal(vrid: u8, room: usize) -> Result<(), Refusal>
+    ensures { Tells (arp_refusal vrid room) 42 result }
 {
     if vrid == 0 {
-        return 14;
+        return Err(Refusal::VridZero);
     }
     if room < 42 {
-        return 22;
+        return Err(Refusal::Room(42));
     }
-    0
+    Ok(())
 }
 
-// Writes the gratuitous ARP frame of a virtual address at the start of `out`.
+// Writes the gratuitous ARP frame of a virtual address at the start of `out`, and answers its length.
 // Refuses 14 (VRID 0) and 22 (room), in that order, and then leaves `out` as it was.
-pub fn write_arp(vrid: u8, address: u32, out: &mut [u8]) -> Written
+#[tactic(auto, using(crate::proofs::Writes::arp_passed))]
+pub fn write_arp(vrid: u8, address: u32, out: &mut [u8]) -> Result<usize, Refusal>
     ensures { ArpWritten vrid address out.old result out.new }
 {
-    let refusal = arp_refusal(vrid, out.len());
-    if refusal == 22 {
-        return Written::Short(42);
-    }
-    if refusal != 0 {
-        return Written::Refused(refusal);
-    }
+    arp_refusal(vrid, out.len())?;
     put_arp(vrid, address, out);
-    Written::Frame(42)
+    Ok(42)
 }

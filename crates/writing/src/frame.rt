@@ -1,142 +1,160 @@
 // The advertisement frame: Ethernet, IPv4 header and VRRP message.
-ghost use Rattle.std.specs.Prelude.{◌≡◌, ◌+◌, ◌≤◌, ◌%◌, ◌++◌, length};
+ghost use Rattle.std.specs.Prelude.{◌≡◌, ◌+◌, ◌≤◌, ◌%◌, ◌/◌, ◌++◌, length};
+ghost use Rattle.wire.specs.Refusal.{Tells};
 ghost use Rattle.writing.specs.Frame.{message_end, message_checksum, message_of, header_checksum, header_of, ethernet_of, frame_of};
 ghost use Rattle.writing.specs.Writing.{over, advertisement_refusal, AdvertisementWritten};
 
 use crate::addresses::address_bytes_wrong;
-use rooms::bytes::{high, lowest, second, third, top};
-use rooms::{Written, put};
-use sums::{fold, number, plain_total};
+use rooms::put;
+use sums::{fold, plain_total};
+use wire::refusal::Refusal;
 
-// The checksum of the header that we write: all of it is known but the total length and the primary address.
-fn header_checksum(primary: u32, addresses: &[u8]) -> u32
-    requires { length addresses.now ≤ 64 }
-    ensures { result ≡ header_checksum primary addresses.now }
-{
-    let fixed: u64 = 0x45000000 + 0x00004000 + 0xFF700000 + 0xE0000012;
-    65535 - fold(fixed + 36 + (addresses.len() as u64) + (primary as u64))
+// What an advertisement of a virtual router says; its addresses have 4 bytes each.
+#[derive(Clone, Copy)]
+pub struct Advertisement<'a> {
+    pub vrid: u8,
+    pub priority: u8,
+    pub interval: u8,
+    pub primary: u32,
+    pub addresses: &'a [u8],
+    pub ghost fours: { length addresses.now % 4 ≡ 0 },
+    pub ghost most: { length addresses.now ≤ 64 },
 }
 
-// The checksum of the message: the addresses are summed where they stand.
-fn message_checksum(vrid: u8, priority: u8, interval: u8, addresses: &[u8]) -> u32
-    requires { (length addresses.now % 4 ≡ 0) × (length addresses.now ≤ 64) }
-    ensures { result ≡ message_checksum vrid priority interval addresses.now }
-{
-    let count = (addresses.len() / 4) as u8;
-    let start = number(0x21, vrid, priority, count) as u64;
-    let middle = number(0, interval, 0, 0) as u64;
-    65535 - fold(start + middle + plain_total(addresses))
+impl Advertisement<'_> {
+    // The checksum of the header that we write: all of it is known but the total length and the primary address.
+    #[tactic(auto, using(crate::proofs::Checksums::header_sum))]
+    fn header_checksum(&self) -> u16
+        ensures { result ≡ header_checksum self.now.primary self.now.addresses.now }
+    {
+        let fixed: u64 = 0x45000000 + 0x00004000 + 0xFF700000 + 0xE0000012;
+        !fold(fixed + 36 + self.addresses.len() as u64 + u64::from(self.primary))
+    }
+
+    // The checksum of the message: the addresses are summed where they stand.
+    #[tactic(auto, using(crate::proofs::Checksums::message_sum))]
+    fn message_checksum(&self) -> u16
+        ensures { result ≡ message_checksum self.now.vrid self.now.priority self.now.interval
+            self.now.addresses.now }
+    {
+        let start = u32::from_be_bytes([0x21, self.vrid, self.priority, self.count()]);
+        let middle = u32::from_be_bytes([0, self.interval, 0, 0]);
+        !fold(u64::from(start) + u64::from(middle) + plain_total(self.addresses))
+    }
+
+    // How many addresses it lists.
+    fn count(&self) -> u8
+        ensures { result ≡ length self.now.addresses.now / 4 }
+    {
+        (self.addresses.len() / 4) as u8
+    }
+
+    // The 14 Ethernet bytes.
+    fn ethernet_head(&self) -> [u8; 14]
+        ensures bytes { result ≡ ethernet_of self.now.vrid }
+        ensures long { 14 ≡ length result }
+    {
+        [
+            0x01, 0x00, 0x5E, 0x00, 0x00, 0x12, 0x00, 0x00, 0x5E, 0x00, 0x01, self.vrid, 0x08, 0x00,
+        ]
+    }
+
+    // The IPv4 header.
+    fn ip_header(&self) -> [u8; 20]
+        ensures bytes { result ≡ header_of self.now.primary self.now.addresses.now }
+        ensures long { 20 ≡ length result }
+    {
+        let [length_high, length_low] = (36 + self.addresses.len() as u16).to_be_bytes();
+        let [sum_high, sum_low] = self.header_checksum().to_be_bytes();
+        let [a, b, c, d] = self.primary.to_be_bytes();
+        [
+            0x45,
+            0,
+            length_high,
+            length_low,
+            0,
+            0,
+            0x40,
+            0,
+            255,
+            112,
+            sum_high,
+            sum_low,
+            a,
+            b,
+            c,
+            d,
+            224,
+            0,
+            0,
+            18,
+        ]
+    }
+
+    // The 8 bytes of the message before its addresses.
+    #[tactic(auto, unfolding(crate::specs::Frame::message_of))]
+    fn message_head(&self) -> [u8; 8]
+        ensures bytes { result ++ message_end self.now.addresses.now
+            ≡ message_of self.now.vrid self.now.priority self.now.interval self.now.addresses.now }
+        ensures long { 8 ≡ length result }
+    {
+        let [sum_high, sum_low] = self.message_checksum().to_be_bytes();
+        [
+            0x21,
+            self.vrid,
+            self.priority,
+            self.count(),
+            0,
+            self.interval,
+            sum_high,
+            sum_low,
+        ]
+    }
+
+    // Writes the frame at the start of a room that holds it.
+    pub fn put(&self, room: &mut [u8])
+        requires { 50 + length self.now.addresses.now ≤ length room.old }
+        ensures { room.new ≡ over (frame_of self.now.vrid self.now.priority self.now.interval self.now.primary
+            self.now.addresses.now) room.old }
+    {
+        put(room, 0, &self.ethernet_head());
+        put(room, 14, &self.ip_header());
+        put(room, 34, &self.message_head());
+        put(room, 42, self.addresses);
+        put(room, 42 + self.addresses.len(), &[0; 8])
+    }
 }
 
-// The 14 Ethernet bytes.
-fn ethernet_head(vrid: u8) -> [u8; 14]
-    ensures bytes { result ≡ ethernet_of vrid }
-    ensures long { 14 ≡ length result }
-{
-    [
-        0x01, 0x00, 0x5E, 0x00, 0x00, 0x12, 0x00, 0x00, 0x5E, 0x00, 0x01, vrid, 0x08, 0x00,
-    ]
-}
-
-// The IPv4 header.
-fn ip_header(primary: u32, addresses: &[u8]) -> [u8; 20]
-    requires { length addresses.now ≤ 64 }
-    ensures bytes { result ≡ header_of primary addresses.now }
-    ensures long { 20 ≡ length result }
-{
-    let total = 36 + addresses.len() as u32;
-    let sum = header_checksum(primary, addresses);
-    [
-        0x45,
-        0,
-        high(total),
-        lowest(total),
-        0,
-        0,
-        0x40,
-        0,
-        255,
-        112,
-        high(sum),
-        lowest(sum),
-        top(primary),
-        second(primary),
-        third(primary),
-        lowest(primary),
-        224,
-        0,
-        0,
-        18,
-    ]
-}
-
-// The 8 bytes of the message before its addresses.
-fn message_head(vrid: u8, priority: u8, interval: u8, addresses: &[u8]) -> [u8; 8]
-    requires { (length addresses.now % 4 ≡ 0) × (length addresses.now ≤ 64) }
-    ensures bytes { result ++ message_end addresses.now
-        ≡ message_of vrid priority interval addresses.now }
-    ensures long { 8 ≡ length result }
-{
-    let count = (addresses.len() / 4) as u8;
-    let sum = message_checksum(vrid, priority, interval, addresses);
-    [
-        0x21,
-        vrid,
-        priority,
-        count,
-        0,
-        interval,
-        high(sum),
-        lowest(sum),
-    ]
-}
-
-// Writes the frame at the start of a room that holds it.
-pub fn put_advertisement(
+// The first of refusals 14, 16, 17 and 22 of direct writing that holds.
+#[tactic(auto, unfolding(crate::specs::Writing::advertisement_refusal))]
+fn advertisement_refusal(
     vrid: u8,
-    priority: u8,
     interval: u8,
-    primary: u32,
     addresses: &[u8],
-    room: &mut [u8],
-)
-    requires addresses_len { (length addresses.now % 4 ≡ 0) × (length addresses.now ≤ 64) }
-    requires addresses_in_bounds { 50 + length addresses.now ≤ length room.old }
-    ensures { room.new ≡ over (frame_of vrid priority interval primary addresses.now)
-        room.old }
-{
-    let ethernet = ethernet_head(vrid);
-    let header = ip_header(primary, addresses);
-    let message = message_head(vrid, priority, interval, addresses);
-    let zeros = [0u8; 8];
-    put(room, 0, &ethernet);
-    put(room, 14, &header);
-    put(room, 34, &message);
-    put(room, 42, addresses);
-    put(room, 42 + addresses.len(), &zeros)
-}
-
-// The refusal of direct writing: 14, 16, 17, 22 in that order, or 0.
-fn advertisement_refusal(vrid: u8, interval: u8, addresses: &[u8], room: usize) -> u32
-    ensures { result ≡ advertisement_refusal vrid interval addresses.now room }
+    room: usize,
+) -> Result<(), Refusal>
+    ensures { Tells (advertisement_refusal vrid interval addresses.now room)
+        (50 + length addresses.now) result }
 {
     if vrid == 0 {
-        return 14;
+        return Err(Refusal::VridZero);
     }
     if interval == 0 {
-        return 16;
+        return Err(Refusal::IntervalZero);
     }
     if address_bytes_wrong(addresses) {
-        return 17;
+        return Err(Refusal::AddressBytes);
     }
-    if room < 50 + addresses.len() {
-        return 22;
+    let need = 50 + addresses.len();
+    if room < need {
+        return Err(Refusal::Room(need));
     }
-    0
+    Ok(())
 }
 
-// Writes the advertisement of a virtual router at the start of `out`; priority 0 is allowed.
+// Writes the advertisement of a virtual router at the start of `out`, and answers its length; priority 0 is allowed.
 // Refuses 14 (VRID 0), 16 (interval 0), 17 (address bytes) and 22 (room), in that order, and then leaves `out` as it was.
+#[tactic(auto, using(crate::proofs::Writes::advertisement_passed))]
 pub fn write_advertisement(
     vrid: u8,
     priority: u8,
@@ -144,18 +162,18 @@ pub fn write_advertisement(
     primary: u32,
     addresses: &[u8],
     out: &mut [u8],
-) -> Written
+) -> Result<usize, Refusal>
     ensures { AdvertisementWritten vrid priority interval primary addresses.now out.old
         result out.new }
 {
-    let need = 50 + addresses.len();
-    let refusal = advertisement_refusal(vrid, interval, addresses, out.len());
-    if refusal == 22 {
-        return Written::Short(need);
-    }
-    if refusal != 0 {
-        return Written::Refused(refusal);
-    }
-    put_advertisement(vrid, priority, interval, primary, addresses, out);
-    Written::Frame(need)
+    advertisement_refusal(vrid, interval, addresses, out.len())?;
+    let advertisement = Advertisement {
+        vrid,
+        priority,
+        interval,
+        primary,
+        addresses,
+    };
+    advertisement.put(out);
+    Ok(50 + addresses.len())
 }

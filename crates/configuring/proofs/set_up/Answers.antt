@@ -1,43 +1,36 @@
 -- `configuring::set_up` meets its contract: refused, or at the lowest free place.
 -- Assumes nothing.
-use mathlib.Core.Path.{sym, ◌∙◌}
+use mathlib.Core.Path.{◌≡◌, sym, ◌∙◌}
 use native.Mathlib.Omega.{arith}
-use Rattle.places.proofs.Finding.{found}
-use Rattle.configuring.proofs.Configures.{configure_refused, configure_done, never_full, configure_most}
+use Rattle.std.specs.Prelude.{Some, None}
+use Rattle.configuring.proofs.Configures.{configure_done, never_full, configure_most}
 use Rattle.configuring.proofs.set_up.Goals as goal
 
-pub returns-then-refusal-ne0 : goal.returns-then-refusal-ne0
-returns-then-refusal-ne0 c =
+pub returns-in_err-place : goal.returns-in_err-place
+returns-in_err-place c =
     let a = c.args in
-    configure_refused a.words.now a.lists.now a.vrid a.priority a.interval a.preempt a.addresses.now _
-    c.configure_refusal-refusal.ensures (λ e. omega arith)
+    let s = a.settings in
+    let none : c.find.result ≡ None = grind arith in
+    absurd (never_full a.words.now s.vrid s.priority s.interval a.addresses.now
+    (sym c.in_ok-configure_refusal.ensures) (sym c.find.ensures ∙ none))
 
 pub address_count-requires : goal.address_count-requires
 address_count-requires c =
     let a = c.args in
-    configure_most a.words.now a.vrid a.priority a.interval a.addresses.now
-    (sym c.configure_refusal-refusal.ensures ∙ c.if-refusal-ne0.false)
+    let s = a.settings in
+    configure_most a.words.now s.vrid s.priority s.interval a.addresses.now (sym c.in_ok-configure_refusal.ensures)
 
 pub fill-requires : goal.fill-requires
 fill-requires c =
     let a = c.args in
-    let none = sym c.configure_refusal-refusal.ensures ∙ c.if-refusal-ne0.false in
-    let most =
-    configure_most a.words.now a.vrid a.priority a.interval a.addresses.now none in
-    let free = found a.words.now 0 _ (sym c.find.ensures ∙ c.in-At.is) in
-    omega (arith, free.below)
+    let s = a.settings in
+    configure_most a.words.now s.vrid s.priority s.interval a.addresses.now (sym c.in_ok-configure_refusal.ensures)
 
-pub returns-in-At : goal.returns-in-At
-returns-in-At c =
+pub returns : goal.returns
+returns c =
     let a = c.args in
-    let none = sym c.configure_refusal-refusal.ensures ∙ c.if-refusal-ne0.false in
-    let free = sym c.find.ensures ∙ c.in-At.is in
-    configure_done a.words.now a.lists.now a.vrid a.priority a.interval a.preempt a.addresses.now _ _ _
-    none free (c.fill.ensures.words ∙ rw (c.new_router-fresh.ensures, c.address_count.ensures)) c.fill.ensures.lists
-
-pub returns-in-Nothing : goal.returns-in-Nothing
-returns-in-Nothing c =
-    let a = c.args in
-    let none = sym c.configure_refusal-refusal.ensures ∙ c.if-refusal-ne0.false in
-    absurd (never_full a.words.now a.vrid a.priority a.interval a.addresses.now
-    none (sym c.find.ensures ∙ c.in-Nothing.is))
+    let s = a.settings in
+    let found : c.find.result ≡ Some c.in_ok-place.place = grind arith in
+    configure_done a.words.now a.lists.now s.vrid s.priority s.interval s.preempt a.addresses.now c.in_ok-place.place _ _
+    (sym c.in_ok-configure_refusal.ensures) (sym c.find.ensures ∙ found)
+    (c.fill.ensures.words ∙ rw (c.new_router-fresh.ensures, c.address_count.ensures)) c.fill.ensures.lists

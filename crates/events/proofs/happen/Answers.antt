@@ -1,26 +1,20 @@
 -- `events::happen` meets its contract.
 -- Assumes nothing.
-use mathlib.Core.Path.{sym, ◌∙◌}
-use native.Mathlib.Omega.{arith}
-use Rattle.events.proofs.Sought.{sought_below, leaves_equal, leaves_refused, happened, not_happened}
+use mathlib.Core.Path.{refl, sym, ◌∙◌}
+use Rattle.wire.specs.declared.refusal.Refusal.TheVariants.{NoRouter}
+use Rattle.events.proofs.Sought.{leaves_equal, leaves_refused, happened, not_happened}
 use Rattle.events.proofs.happen.Goals as goal
 
-pub happen_at-requires : goal.happen_at-requires
-happen_at-requires c =
+pub returns-in-Some : goal.returns-in-Some
+returns-in-Some c =
     let a = c.args in
-    let below = sought_below a.words.now a.vrid _ (sym c.seek.ensures ∙ c.in-At.is) in
-    omega arith
-
-pub returns-in-At : goal.returns-in-At
-returns-in-At c =
-    let a = c.args in
-    let sought = sym c.seek.ensures ∙ c.in-At.is in
+    let sought = sym c.seek.ensures ∙ c.in-Some.is in
     leaves_equal _ _ _ _ _ (happened a.words.now a.lists.now a.vrid _ a.event a.out.now sought)
     c.happen_at.ensures
 
-pub returns-in-Nothing : goal.returns-in-Nothing
-returns-in-Nothing c =
+pub returns-in-None : goal.returns-in-None
+returns-in-None c =
     let a = c.args in
-    let nowhere = sym c.seek.ensures ∙ c.in-Nothing.is in
+    let nowhere = sym c.seek.ensures ∙ c.in-None.is in
     leaves_equal _ _ _ _ _ (not_happened a.words.now a.lists.now a.vrid a.event a.out.now nowhere)
-    (leaves_refused 20 _ _ (λ z. omega arith) (λ z. omega arith))
+    (leaves_refused NoRouter _ _ refl)

@@ -1,7 +1,8 @@
 -- `packets::hear_at` meets its contract.
 -- Assumes nothing.
-use mathlib.Core.Path.{sym, ◌∙◌}
+use mathlib.Core.Path.{sym}
 use native.Mathlib.Omega.{arith}
+use Rattle.wire.proofs.Refusals.{nonzero}
 use Rattle.events.proofs.Sought.{leaves_equal}
 use Rattle.packets.proofs.Heard.{refused_range, heard_refused, heard_accepted}
 use Rattle.packets.proofs.hear_at.Goals as goal
@@ -9,20 +10,18 @@ use Rattle.packets.proofs.hear_at.Goals as goal
 pub count_at_place-requires : goal.count_at_place-requires
 count_at_place-requires c =
     let a = c.args in
-    let range = refused_range a.words.now a.lists.now a.packet.now a.place a.fields _
-    c.refusal_at-refusal.ensures (λ e. omega arith) in
+    let range = refused_range a.words.now a.lists.now a.heard.packet.now a.place a.heard.fields _ c.in-Err.ensures (nonzero c.in-Err.refusal) in
     omega (arith, range)
 
-pub returns-then-refusal-ne0 : goal.returns-then-refusal-ne0
-returns-then-refusal-ne0 c =
+pub returns-in-Err : goal.returns-in-Err
+returns-in-Err c =
     let a = c.args in
-    heard_refused a.words.now a.lists.now a.packet.now a.place a.fields a.out.now _ _
-    c.refusal_at-refusal.ensures (λ e. omega arith) c.count_at_place.ensures
+    heard_refused a.words.now a.lists.now a.heard.packet.now a.place a.heard.fields a.out.now c.in-Err.refusal _ c.in-Err.ensures
+    c.count_at_place.ensures
 
 pub returns : goal.returns
 returns c =
     let a = c.args in
-    let none = sym c.refusal_at-refusal.ensures ∙ c.if-refusal-ne0.false in
     leaves_equal _ _ _ _ _
-    (heard_accepted a.words.now a.lists.now a.packet.now a.place a.fields a.out.now none)
+    (heard_accepted a.words.now a.lists.now a.heard.packet.now a.place a.heard.fields a.out.now (sym c.in_default.ensures))
     c.accept_at.ensures

@@ -5,4 +5,4 @@ use Rattle.events.proofs.lists.put_list.Goals as goal
 
 pub returns : goal.returns
 unfolding set_list
-returns c = c.put.ensures
+returns c = rw (← c.index.ensures.index) c.put.ensures

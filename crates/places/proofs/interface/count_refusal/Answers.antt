@@ -5,4 +5,4 @@ use Rattle.places.proofs.interface.count_refusal.Goals as goal
 
 pub returns : goal.returns
 unfolding count_refusal
-returns c = rw c.wrapping_add_u32.ensures.value
+returns c = rw (c.wrapping_add_u32.ensures.value, c.number-number.ensures.number)

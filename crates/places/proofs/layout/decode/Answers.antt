@@ -5,12 +5,4 @@ use Rattle.places.proofs.layout.decode.Goals as goal
 
 pub returns : goal.returns
 unfolding decode_of
-returns c =
-    rw (
-      c.decode_counts-counts.ensures,
-      c.addresses-count.ensures,
-      c.state_of-state.ensures,
-      c.low-interval.ensures,
-      c.low-priority.ensures,
-      c.low-vrid.ensures,
-    )
+returns c = rw (c.decode_counts.ensures, c.state_of.ensures)

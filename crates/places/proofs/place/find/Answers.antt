@@ -5,22 +5,21 @@ use Rattle.places.specs.Place.{place_of}
 use Rattle.places.proofs.Finding.{find_hit, find_miss, find_end}
 use Rattle.places.proofs.place.find.Goals as goal
 
-pub loop-place-init : goal.loop-place-init
+pub loop-index-init : goal.loop-index-init
 unfolding place_of
-loop-place-init c = (refl, omega arith, refl)
+loop-index-init c = refl
 
-pub returns-then-words-place : goal.returns-then-words-place
-returns-then-words-place c =
+pub returns-then-words-index : goal.returns-then-words-index
+returns-then-words-index c =
     let a = c.args in
-    sym (find_hit a.words.now a.vrid c.loop-place.place (omega arith) (omega arith)) ∙ c.loop-place.invariant.2
+    sym (find_hit a.words.now a.vrid c.loop-index.index (omega arith) (omega arith)) ∙ c.loop-index.invariant
 
-pub loop-place-preserved : goal.loop-place-preserved
-loop-place-preserved c =
+pub loop-index-preserved : goal.loop-index-preserved
+loop-index-preserved c =
     let a = c.args in
-    let miss = find_miss a.words.now a.vrid c.loop-place.place (omega arith) (λ z. c.if-words-place.false (z ∙ sym c.loop-place.invariant.0)) in
-    (c.loop-place.invariant.0, omega arith, sym miss ∙ c.loop-place.invariant.2)
+    sym (find_miss a.words.now a.vrid c.loop-index.index (omega arith) (λ z. omega arith)) ∙ c.loop-index.invariant
 
 pub returns : goal.returns
 returns c =
     let a = c.args in
-    sym (find_end a.words.now a.vrid c.loop-place.place (omega arith)) ∙ c.loop-place.invariant.2
+    sym (find_end a.words.now a.vrid c.loop-index.index (omega arith)) ∙ c.loop-index.invariant

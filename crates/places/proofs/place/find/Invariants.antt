@@ -4,9 +4,5 @@ use Rattle.std.proofs.Common.{◌≡◌, ◌-◌, ◌≤◌}
 use Rattle.places.specs.Place.{place_from, place_of}
 use Rattle.places.proofs.place.find.Given as goal
 
-abbrev pub invariant-loop-place : goal.invariant-loop-place
-invariant-loop-place l =
-    (l.sought ≡ l.vrid) × (l.place ≤ 255) × (place_from l.words l.vrid l.place (255 - l.place) ≡ place_of l.words l.vrid)
-
-abbrev pub decreases-loop-place : goal.decreases-loop-place
-decreases-loop-place l = 255 - l.place
+abbrev pub invariant-loop-index : goal.invariant-loop-index
+invariant-loop-index l = place_from l.words l.vrid l.index (255 - l.index) ≡ place_of l.words l.vrid

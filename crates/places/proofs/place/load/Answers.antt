@@ -7,6 +7,6 @@ use Rattle.places.proofs.place.load.Goals as goal
 pub returns : goal.returns
 unfolding record_at
 returns c =
-    let place = c.args.place in
-    let e : 16 + 16 * place + 16 - (16 + 16 * place) ≡ 16 = omega arith in
-    c.decode.ensures ∙ rw e
+    let start = c.start-start.result in
+    let e : start + 16 - start ≡ 16 = omega arith in
+    c.decode.ensures ∙ rw (e, c.start-start.ensures.start)

@@ -5,4 +5,4 @@ use Rattle.places.proofs.Events.{timer_is}
 use Rattle.places.proofs.place.timer.Goals as goal
 
 pub returns : goal.returns
-returns c = sym (timer_is c.args.words.now c.args.place)
+returns c = rw c.start.ensures.start (sym (timer_is c.args.words.now c.args.place))

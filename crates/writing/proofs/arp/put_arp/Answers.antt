@@ -6,8 +6,8 @@ use Rattle.writing.proofs.arp.put_arp.Goals as goal
 
 pub returns : goal.returns
 returns c =
-    let h = c.arp_head-head.ensures in
-    let t = c.arp_tail-tail.ensures in
-    let head = put_next c.arp_head-head.result 22 nothing c.put.ensures (omega arith) in
-    let both = put_next c.arp_tail-tail.result 42 head c.put-2.ensures (omega arith) in
+    let h = c.arp_head.ensures in
+    let t = c.arp_tail.ensures in
+    let head = put_next c.arp_head.result 22 nothing c.put.ensures (omega arith) in
+    let both = put_next c.arp_tail.result 42 head c.put-2.ensures (omega arith) in
     frame_stands both (arp_parts _ _ _ _ h.bytes t.bytes)
