@@ -1,36 +1,12 @@
 // A station just configured.
 ghost use Rattle.std.specs.Prelude.{◌≡◌, ◌≤◌, length};
-ghost use Rattle.wire.specs.Refusal.{number_answered, room_answered};
 ghost use Rattle.station.specs.Station.{station_of};
-ghost use Rattle.station.specs.Making.{Makes, addresses_in, station_refusal, made_of};
+ghost use Rattle.station.specs.Making.{Makes, addresses_in, made_of};
 
 use crate::station::{Station, Stepped};
-use configuring::{address_count, new_router};
+use configuring::{Settings, address_count, new_router, settings_refusal};
 use events::answer::Done;
 use states::record::Router;
-use wire::refusal::Refusal;
-use writing::addresses::address_bytes_wrong;
-
-// The first of refusals 14 to 17.
-#[tactic(auto, unfolding(crate::specs::Making::station_refusal))]
-fn station_refusal(vrid: u8, priority: u8, interval: u8, addresses: &[u8]) -> Result<(), Refusal>
-    ensures number { number_answered result ≡ station_refusal vrid priority interval addresses.now }
-    ensures room { room_answered result ≡ 0 }
-{
-    if vrid == 0 {
-        return Err(Refusal::VridZero);
-    }
-    if priority == 0 {
-        return Err(Refusal::PriorityZero);
-    }
-    if interval == 0 {
-        return Err(Refusal::IntervalZero);
-    }
-    if address_bytes_wrong(addresses) {
-        return Err(Refusal::AddressBytes);
-    }
-    Ok(())
-}
 
 // A station that has counted and sent nothing.
 fn station_of(primary: u32, router: Router, addresses: [u8; 64]) -> Station
@@ -67,7 +43,13 @@ pub fn new_station(
 ) -> Stepped
     ensures { Makes (made_of vrid priority interval preempt primary addresses.now) result }
 {
-    if let Err(refusal) = station_refusal(vrid, priority, interval, addresses) {
+    let settings = Settings {
+        vrid,
+        priority,
+        interval,
+        preempt,
+    };
+    if let Err(refusal) = settings_refusal(settings, addresses) {
         let none = new_router(0, 0, 0, false, 0);
         return Stepped {
             station: station_of(primary, none, [0; 64]),
