@@ -16,7 +16,7 @@ fn rehearse<W: Write>(output: &mut W, script: &[u8]) -> io::Result<()>
 {
     let mut out = [0; 65536];
     let mut now = start();
-    while !now.done {
+    while !now.reading.done {
         let ran = run(script, now, &mut out);
         output.write_all(&out[..ran.written])?;
         now = ran.progress;

@@ -1,9 +1,10 @@
--- `script::kinds::kind_of` meets its contract.
+-- `script::kinds::Kind::try_from` meets its contract.
 -- Assumes nothing.
+use mathlib.Core.Path.{refl}
 use Rattle.std.proofs.Common.{arith}
 use Rattle.script.specs.Kinds.{kind_of}
-use Rattle.script.proofs.OfKind.{unknown_kind}
-use Rattle.script.proofs.kinds.kind_of.Goals as goal
+use Rattle.script.proofs.Named.{unknown_kind}
+use Rattle.script.proofs.kinds.KindTryFromU8.try_from.Goals as goal
 
 pub returns-in-1 : goal.returns-in-1
 unfolding kind_of
@@ -30,5 +31,7 @@ unfolding kind_of
 returns-in-6 c = rw c.in-6.is
 
 pub returns-in_default : goal.returns-in_default
-returns-in_default c =
-    unknown_kind c.args.byte (omega arith) (omega arith) (omega arith) (omega arith) (omega arith) (omega arith)
+returns-in_default c = (
+  unknown_kind c.args.byte (omega arith) (omega arith) (omega arith) (omega arith) (omega arith) (omega arith),
+  refl,
+)
