@@ -3,3 +3,4 @@ pub mod Listed
 pub mod Acted
 pub mod Sought
 pub mod Ticking
+pub mod Answers

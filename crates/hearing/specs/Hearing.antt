@@ -6,20 +6,14 @@ use Rattle.states.specs.declared.step.Event.TheVariants.{Packet}
 use Rattle.states.specs.declared.step.Outcome.{Outcome}
 use Rattle.states.specs.Step.{counted, step_of}
 use Rattle.router.specs.Accept.{router_refusal, refused_of, accepted_of}
-use Rattle.events.specs.declared.answer.Answered.TheVariants.{Refused as CallRefused}
 use Rattle.events.specs.Lists.{their_list, lists_match}
 use Rattle.station.specs.declared.station.Station.{Station}
-use Rattle.station.specs.declared.station.Stepped.{Stepped}
 use Rattle.station.specs.Station.{Result, refuses, has_router, list_of, with_router, with_refusals}
 use Rattle.station.specs.Acting.{acted_by}
 
 -- "Refusals 1 to 9 add one to that interface count"
 unfoldable pub counted_by : Station → ℕ → Station
 counted_by s number = with_refusals s (slice_set s.refusals (number - 1) (counted (slice_index s.refusals (number - 1))))
-
--- such a refusal
-abbrev pub refused_by : Station → ℕ → Stepped
-refused_by s number = record { station = counted_by s number; answer = CallRefused number }
 
 -- the first of refusals 10 to 13 that a station's router gives a packet, 0 where there is none
 unfoldable pub refusal_by : Station → List ℕ → Fields → ℕ

@@ -1,72 +1,71 @@
 // Plain parameters above the lent list: a copy of the stations is lent, beside a room for what the step writes.
 #![tactic(auto)]
 
-ghost use Rattle.std.specs.Prelude.{◌≡◌};
+ghost use Rattle.std.specs.Prelude.{◌≡◌, ℕ, List, Result as Ending};
+ghost use denote.Ref.{MutBor};
+ghost use Rattle.wire.specs.declared.refusal.Refusal.{Refusal};
+ghost use Rattle.events.specs.declared.answer.Done.{Done};
+ghost use Rattle.station.specs.declared.station.Station.{Station};
 ghost use Rattle.passing.specs.Passing.{fresh_room};
-ghost use Rattle.lent.specs.Lent.{moved_by, stepped_by};
-ghost use Rattle.stations.specs.List.{started_at, shut_at, clocked_at, all_passed, delivered_at};
+ghost use Rattle.lent.specs.Lent.{Moves};
+ghost use Rattle.stations.specs.List.{ListResult, LeavesList, started_at, shut_at, clocked_at, all_passed, delivered_at};
 
-use events::answer::Answered;
+use events::answer::Done;
 use station::station::Station;
 use stations::list;
-
-// A step, and the numbers of the stations that it is for.
-#[derive(Clone, Copy)]
-pub enum Step {
-    Startup(usize),
-    Shutdown(usize),
-    Clock(usize, u32),
-    Deliver(usize, usize),
-}
+use wire::refusal::Refusal;
 
 // What a step leaves: all stations, and its answer.
 #[derive(Clone, Copy)]
 pub struct Moved {
     pub stations: [Station; 16],
-    pub answer: Answered,
+    pub answer: Result<Done, Refusal>,
 }
 
-// Takes one step; refuses as the list's function for it does.
-fn step_in(all: [Station; 16], step: Step) -> Moved
-    ensures { result ≡ moved_by (stepped_by step all fresh_room) }
+// Lends the copy and a fresh room to one call on the list.
+#[tactic(auto, unfolding(passing::specs::Passing::fresh_room))]
+fn lend<F: FnOnce(&mut [Station], &mut [u8]) -> Result<Done, Refusal>>(
+    all: [Station; 16],
+    call: F,
+) -> Moved
+    requires { F.IsAlwaysCallable call }
+    ensures { (by : List Station → List ℕ → ListResult)
+        → ((lent left : MutBor (List Station)) (room after : MutBor (List ℕ)) (answer : Ending Done Refusal)
+        → F.post call lent room answer left after → LeavesList (by lent.now room.now) answer left.now after.now)
+        → Moves (by all fresh_room) result }
 {
     let mut stations = all;
-    let mut out = [0u8; 786];
-    let answer = match step {
-        Step::Startup(at) => list::startup(&mut stations, at, &mut out),
-        Step::Shutdown(at) => list::shutdown(&mut stations, at, &mut out),
-        Step::Clock(at, ticks) => list::clock(&mut stations, at, ticks, &mut out),
-        Step::Deliver(from, to) => list::deliver(&mut stations, from, to, &mut out),
-    };
+    let mut out = [0; 786];
+    let answer = call(&mut stations, &mut out);
     Moved { stations, answer }
 }
 
 // Starts up the station of a number; refuses as `list::startup` does.
 pub fn startup_in(all: [Station; 16], at: usize) -> Moved
-    ensures { result ≡ moved_by (started_at all at fresh_room) }
+    ensures { Moves (started_at all at fresh_room) result }
 {
-    step_in(all, Step::Startup(at))
+    lend(all, |stations, out| list::startup(stations, at, out))
 }
 
 // Shuts down the station of a number; refuses as `list::shutdown` does.
 pub fn shutdown_in(all: [Station; 16], at: usize) -> Moved
-    ensures { result ≡ moved_by (shut_at all at fresh_room) }
+    ensures { Moves (shut_at all at fresh_room) result }
 {
-    step_in(all, Step::Shutdown(at))
+    lend(all, |stations, out| list::shutdown(stations, at, out))
 }
 
 // Lets so many ticks pass at the station of a number; refuses as `list::clock` does.
 pub fn clock_in(all: [Station; 16], at: usize, ticks: u32) -> Moved
-    ensures { result ≡ moved_by (clocked_at all at ticks fresh_room) }
+    ensures { Moves (clocked_at all at ticks fresh_room) result }
 {
-    step_in(all, Step::Clock(at, ticks))
+    lend(all, |stations, out| list::clock(stations, at, ticks, out))
 }
 
 // Hands the latest advertisement of one station to another; refuses as `list::deliver` does.
 pub fn deliver_in(all: [Station; 16], from: usize, to: usize) -> Moved
-    ensures { result ≡ moved_by (delivered_at all from to fresh_room) }
+    ensures { Moves (delivered_at all from to fresh_room) result }
 {
-    step_in(all, Step::Deliver(from, to))
+    lend(all, |stations, out| list::deliver(stations, from, to, out))
 }
 
 // Lets so many ticks pass at the first stations, as many as are used; the stations are copied once for all of them.

@@ -7,9 +7,8 @@ ghost use Rattle.output.specs.Output.{arps_of, bytes_of, need_of};
 
 use states::record::Router;
 use states::step::Writes;
-use sums::number;
 use writing::arp::put_arp;
-use writing::frame::put_advertisement;
+use writing::frame::Advertisement;
 
 // How many bytes the frames of an event have: the room that putting them takes.
 pub fn need(writes: Writes, list: &[u8]) -> usize
@@ -31,7 +30,7 @@ fn put_arps(vrid: u8, list: &[u8], room: &mut [u8])
     ensures { room.new ≡ over (arps_of vrid list.now) room.old }
 {
     for (k, address) in list.chunks_exact(4).enumerate() {
-        let address = number(address[0], address[1], address[2], address[3]);
+        let address = u32::from_be_bytes([address[0], address[1], address[2], address[3]]);
         put_arp(vrid, address, &mut room[42 * k..]);
     }
 }
@@ -42,16 +41,23 @@ pub fn put_output(writes: Writes, r: Router, primary: u32, list: &[u8], room: &m
     requires list_in_bounds { need_of writes (length list.now) ≤ length room.old }
     ensures { room.new ≡ over (bytes_of writes r primary list.now) room.old }
 {
+    let mut advertisement = Advertisement {
+        vrid: r.vrid,
+        priority: r.priority,
+        interval: r.interval,
+        primary,
+        addresses: list,
+    };
     match writes {
         Writes::Nothing => {}
-        Writes::Advertisement => {
-            put_advertisement(r.vrid, r.priority, r.interval, primary, list, room)
+        Writes::Advertisement => advertisement.put(room),
+        Writes::Farewell => {
+            advertisement.priority = 0;
+            advertisement.put(room)
         }
-        Writes::Farewell => put_advertisement(r.vrid, 0, r.interval, primary, list, room),
         Writes::Takeover => {
-            let at = 50 + list.len();
-            put_advertisement(r.vrid, r.priority, r.interval, primary, list, room);
-            put_arps(r.vrid, list, &mut room[at..])
+            advertisement.put(room);
+            put_arps(r.vrid, list, &mut room[50 + list.len()..])
         }
     }
 }

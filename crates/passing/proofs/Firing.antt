@@ -1,9 +1,8 @@
 -- The fires of a station's timer, taken together: the functions of `passing` cite it.
---     counts-of-backup, counts-of-other   the counts after a fire, by the state's number
 --     passed-silent   what passes where the timer does not fire
 --     passed-due      what passes where it does: all fires of the router, and its own advertisement
 -- Assumes nothing.
-use Rattle.std.proofs.Common.{◌≡◌, ℕ, zero, suc, ◌+◌, ◌-◌, ◌*◌, ◌%◌, ◌<◌, ◌≤◌, Bool, true, false, cond, not, ◌&&◌, eqb, leb, List, ◌++◌, length, take, drop, sym, refl, ap, ◌∙◌, le_of_lt, mod-lt, mod-eq_of_lt, arith, take_all, take_at, drop_at, le-ltb, lt-ltb, eq-eqb, ne_eqb, eqb-true, leb-false, leb-true}
+use Rattle.std.proofs.Common.{◌≡◌, ℕ, zero, suc, ◌+◌, ◌-◌, ◌%◌, ◌<◌, ◌≤◌, Bool, true, false, cond, not, ◌&&◌, eqb, leb, List, ◌++◌, length, take, drop, sym, refl, ap, ◌∙◌, le_of_lt, mod-lt, mod-eq_of_lt, arith, take_all, take_at, drop_at, le-ltb, lt-ltb, eq-eqb, ne_eqb, eqb-true, leb-false, leb-true}
 use mathlib.Core.Logic.{dite}
 use native.Mathlib.Nat.{mod-eq-sub-mod, zero-mod}
 use native.Mathlib.Decide.{dec_lt}
@@ -12,7 +11,6 @@ use Rattle.writing.specs.Writing.{over}
 use Rattle.writing.specs.Frame.{frame_of}
 use Rattle.states.specs.declared.record.State.{State}
 use Rattle.states.specs.declared.record.State.TheVariants.{Initialize, Backup, Master}
-use Rattle.states.specs.declared.record.Counts.{Counts}
 use Rattle.states.specs.declared.record.Router.{Router}
 use Rattle.states.specs.declared.step.Writes.{Writes}
 use Rattle.states.specs.declared.step.Writes.TheVariants.{Nothing, Advertisement, Farewell, Takeover}
@@ -20,11 +18,11 @@ use Rattle.states.specs.declared.step.Event.TheVariants.{Timer}
 use Rattle.states.specs.declared.step.Outcome.{Outcome}
 use Rattle.router.specs.declared.clock.Ticked.{Ticked}
 use Rattle.states.specs.Timers.{advertisement_interval_of}
-use Rattle.states.specs.Step.{state_number, with_state, with_counts, became_master, step_in, step_of}
+use Rattle.states.specs.Step.{state_number, with_state, with_counts, step_in, step_of}
 use Rattle.router.specs.Clock.{falls, fires, ticked_in, ticked_of}
 use Rattle.output.specs.Output.{arps_of, bytes_of, need_of}
 use Rattle.output.proofs.Lengths.{frame_length}
-use Rattle.events.specs.declared.answer.Answered.TheVariants.{Done}
+use Rattle.events.specs.Result.{done}
 use Rattle.station.specs.declared.station.Station.{Station}
 use Rattle.station.specs.Station.{list_of, with_router, with_frame}
 use Rattle.station.specs.Acting.{written_by, needed_by, kept_by, acted_by}
@@ -35,17 +33,6 @@ use Rattle.station.proofs.Arrays.{list_length}
 
 pub rest_below : (n m : ℕ) → ¬ (m ≡ 0) → n % m ≤ m
 rest_below n m some = le_of_lt (mod-lt n (omega arith))
-
-pub counts_of_backup : (state : State) (counts : Counts) → state_number state ≡ 1
-    → counts_in state counts ≡ became_master counts
-counts_of_backup Initialize counts e = absurd (omega arith)
-counts_of_backup Backup counts e = refl
-counts_of_backup Master counts e = absurd (omega arith)
-
-pub counts_of_other : (state : State) (counts : Counts) → ¬ (state_number state ≡ 1) → counts_in state counts ≡ counts
-counts_of_other Initialize counts n = refl
-counts_of_other Backup counts n = absurd (n refl)
-counts_of_other Master counts n = refl
 
 -- the advertisement of a station
 abbrev own_frame : Station → List ℕ
@@ -161,7 +148,7 @@ module _ (s : Station) (long : length s.addresses ≡ 64) (named : ¬ (s.router.
   -- no outcome is refused for room
   acted_whole : (o : Outcome) (leftover : ℕ) → acted_by s o leftover fresh_room
       ≡ record {
-        answer = Done (needed_by s o) leftover;
+        answer = done (needed_by s o) leftover;
         station = kept_by s o;
         room = over (written_by s o) fresh_room;
       }
@@ -314,9 +301,9 @@ module _ (s : Station) (long : length s.addresses ≡ 64) (ticks : ℕ) where
     passed_silent due same_frame same_sent = rw (is_router, same_frame, same_sent, ← is_passed, due)
 
     pub passed_due : fires_in s.router ticks ≡ true → frame ≡ over (own_frame s) s.frame
-        → sent ≡ 50 + 4 * (s.router.count % 17) → made ≡ passed s ticks
+        → sent ≡ 50 + length (list_of s) → made ≡ passed s ticks
     passed_due due wrote is_sent =
         let own = s.router in
-        let whole = frame_length own.vrid own.priority own.interval s.primary (list_of s) in
-        let is_length : sent ≡ length (own_frame s) = omega (arith, list_length s long) in
+        let is_length : sent ≡ length (own_frame s) =
+        is_sent ∙ sym (frame_length own.vrid own.priority own.interval s.primary (list_of s)) in
         rw (is_router, wrote, is_length, ← is_passed, due)

@@ -1,7 +1,5 @@
 -- Time for a station, firing as often as due (01, 'Time', 'The rehearsal program').
 use Rattle.std.specs.Prelude.{ℕ, zero, suc, cond, List, replicate, ◌==◌}
-use Rattle.events.specs.declared.answer.Answered.{Answered}
-use Rattle.events.specs.declared.answer.Answered.TheVariants.{Done, Refused, Short}
 use Rattle.station.specs.declared.station.Station.{Station}
 use Rattle.steps.specs.Steps.{clocked_by}
 
@@ -12,18 +10,12 @@ room_bytes = 786
 unfoldable pub fresh_room : List ℕ
 fresh_room = replicate room_bytes 0
 
--- "the leftover, d minus the remaining time, is reported"; a refusal reports none
-abbrev pub leftover_of : Answered → ℕ
-leftover_of (Done bytes leftover) = leftover
-leftover_of (Refused number) = 0
-leftover_of (Short need) = 0
-
--- "the caller may hand it in again": until it is 0, and at most so many times
+-- "the leftover, d minus the remaining time, is reported", and "the caller may hand it in again": until it is 0, and at most so many times
 unfoldable pub passed_in : ℕ → Station → ℕ → Station
 passed_in zero s ticks = s
 passed_in (suc times) s ticks =
-    cond (leftover_of (clocked_by s ticks fresh_room).answer == 0) (clocked_by s ticks fresh_room).station
-    (passed_in times (clocked_by s ticks fresh_room).station (leftover_of (clocked_by s ticks fresh_room).answer))
+    cond ((clocked_by s ticks fresh_room).answer.leftover == 0) (clocked_by s ticks fresh_room).station
+    (passed_in times (clocked_by s ticks fresh_room).station (clocked_by s ticks fresh_room).answer.leftover)
 
 -- "each firing as often as due": a running timer fires at most once a tick, and the last time the leftover is 0
 unfoldable pub passed : Station → ℕ → Station

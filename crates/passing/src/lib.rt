@@ -6,33 +6,33 @@ ghost use Rattle.passing.specs.Passing.{passed};
 ghost use Rattle.passing.specs.Elapsed.{due_in, counts_in, fired_of, elapsed_of};
 
 use states::record::{Counts, Router, State};
-use states::step::state_number;
 use states::timers::advertisement_interval;
-use station::acting::list_bytes;
 use station::station::Station;
-use writing::frame::put_advertisement;
+use writing::frame::Advertisement;
 
 // Whether the timer fires within so many ticks.
+#[tactic(auto, unfolding(crate::specs::Elapsed::due_in))]
 fn due(own: Router, ticks: u32) -> bool
     ensures { result ≡ due_in own ticks }
 {
-    let state = own.state;
-    state_number(state) != 0 && own.timer <= ticks
+    own.state != State::Initialize && own.timer <= ticks
 }
 
 // The counts after a fire: a Backup became Master.
 fn fired_counts(own: Router) -> Counts
     ensures { result ≡ counts_in own.state own.counts }
 {
-    let state = own.state;
-    let mut counts = own.counts;
-    if state_number(state) == 1 {
-        counts.became = std::num::wrapping_add_u32(counts.became, 1);
+    match own.state {
+        State::Initialize | State::Master => own.counts,
+        State::Backup => Counts {
+            became: own.counts.became.wrapping_add(1),
+            ..own.counts
+        },
     }
-    counts
 }
 
 // What remains of the last interval, so many ticks after a first fire; of an interval of 0, nothing.
+#[tactic(auto, using(crate::proofs::Firing::rest_below))]
 fn remaining(interval: u32, left: u32) -> u32
     ensures { result ≡ interval - left % interval }
 {
@@ -44,37 +44,33 @@ fn remaining(interval: u32, left: u32) -> u32
 
 // The router after its fires, of which the first left so many ticks. Each further one leaves the very router, a Master
 // whose timer is full.
+#[tactic(auto, unfolding(crate::specs::Elapsed::fired_of))]
 fn fired(own: Router, left: u32) -> Router
     ensures { result ≡ fired_of own left }
 {
-    let interval = advertisement_interval(own.interval);
-    let counts = fired_counts(own);
     Router {
-        vrid: own.vrid,
-        priority: own.priority,
-        interval: own.interval,
-        preempt: own.preempt,
         state: State::Master,
-        timer: remaining(interval, left),
-        count: own.count,
-        counts: counts,
+        timer: remaining(advertisement_interval(own.interval), left),
+        counts: fired_counts(own),
+        ..own
     }
 }
 
 // The router when so many ticks have passed; where none is there, nothing passes.
+#[tactic(auto, unfolding(crate::specs::Elapsed::elapsed_of))]
 fn elapsed(own: Router, ticks: u32) -> Router
     ensures { result ≡ elapsed_of own ticks }
 {
-    let state = own.state;
-    if (own.vrid == 0) | (state_number(state) == 0) {
+    if own.vrid == 0 || own.state == State::Initialize {
         return own;
     }
     if own.timer <= ticks {
         return fired(own, ticks - own.timer);
     }
-    let mut after = own;
-    after.timer = own.timer - ticks;
-    after
+    Router {
+        timer: own.timer - ticks,
+        ..own
+    }
 }
 
 // Lets so many ticks pass; where no router is there, all stays. However often it fires, the frame is its own advertisement,
@@ -83,28 +79,20 @@ pub fn pass(s: Station, ticks: u32) -> Station
     ensures { result ≡ passed s ticks }
 {
     let own = s.router;
-    let refusals = s.refusals;
-    let addresses = s.addresses;
-    let mut frame = s.frame;
-    let mut sent = s.sent;
-    if (own.vrid != 0) & due(own, ticks) {
-        let end = list_bytes(own);
-        put_advertisement(
-            own.vrid,
-            own.priority,
-            own.interval,
-            s.primary,
-            &addresses[0..end],
-            &mut frame,
-        );
-        sent = 50 + end;
-    }
-    Station {
-        primary: s.primary,
+    let mut after = Station {
         router: elapsed(own, ticks),
-        refusals: refusals,
-        addresses: addresses,
-        frame: frame,
-        sent: sent,
+        ..s
+    };
+    if own.vrid != 0 && due(own, ticks) {
+        let advertisement = Advertisement {
+            vrid: own.vrid,
+            priority: own.priority,
+            interval: own.interval,
+            primary: s.primary,
+            addresses: s.list(),
+        };
+        advertisement.put(&mut after.frame);
+        after.sent = 50 + advertisement.addresses.len();
     }
+    after
 }

@@ -13,7 +13,8 @@ use Rattle.states.specs.declared.step.Writes.TheVariants.{Nothing, Advertisement
 use Rattle.states.specs.declared.step.Outcome.{Outcome}
 use Rattle.output.specs.Output.{need_of}
 use Rattle.output.proofs.Lengths.{bytes_length}
-use Rattle.events.specs.declared.answer.Answered.TheVariants.{Done, Short}
+use Rattle.std.specs.Prelude.{Ok, Err}
+use Rattle.wire.specs.declared.refusal.Refusal.TheVariants.{Room}
 use Rattle.station.specs.declared.station.Station.{Station}
 use Rattle.station.specs.declared.station.Stepped.{Stepped}
 use Rattle.station.specs.Station.{Result, Leaves, list_of, with_router, with_frame}
@@ -33,7 +34,7 @@ advertisement_fits Takeover n h = omega arith
 
 module _ (s : Station) (o : Outcome) (leftover : ℕ) (room : List ℕ) (need : ℕ) (is_need : need ≡ needed_by s o) where
   pub acted_short : length room < need
-      → Leaves (acted_by s o leftover room) (record { station = s; answer = Short need }) room
+      → Leaves (acted_by s o leftover room) (record { station = s; answer = Err (Room need) }) room
   unfolding acted_by
   acted_short h =
       let t = lt-ltb (length room) need h in
@@ -42,7 +43,7 @@ module _ (s : Station) (o : Outcome) (leftover : ℕ) (room : List ℕ) (need : 
   module _ (station : Station) (after : List ℕ) (fits : need ≤ length room)
       (wrote : after ≡ over (written_by s o) room) where
     pub acted_silent : need ≡ 0 → station ≡ with_router s o.router
-        → Leaves (acted_by s o leftover room) (record { station = station; answer = Done need leftover }) after
+        → Leaves (acted_by s o leftover room) (record { station = station; answer = Ok (record { written = need; leftover = leftover }) }) after
     unfolding acted_by
     acted_silent z e =
         let t = le-ltb (length room) need fits in
@@ -59,7 +60,7 @@ module _ (s : Station) (o : Outcome) (leftover : ℕ) (room : List ℕ) (need : 
 
     pub acted_written : (n : ℕ) → n ≡ 50 + length (list_of s) → ¬ (need ≡ 0)
         → station ≡ with_frame (with_router s o.router) (take n after)
-        → Leaves (acted_by s o leftover room) (record { station = station; answer = Done need leftover }) after
+        → Leaves (acted_by s o leftover room) (record { station = station; answer = Ok (record { written = need; leftover = leftover }) }) after
     unfolding acted_by
     acted_written n is_n some e =
         let t = le-ltb (length room) need fits in

@@ -1,24 +1,28 @@
 -- The ends of making a station.
 -- Assumes nothing.
-use mathlib.Core.Path.{◌≡◌}
-use mathlib.Core.List.{List}
-use mathlib.Core.Bool.{Bool, not, ◌||◌}
-use Prim.Native.Nat.{ℕ, ◌/◌, ◌%◌, ◌≤◌}
-use native.Mathlib.Omega.{arith}
-use lib.Dec.{eqb, ltb}
-use lib.ListN.{length, replicate}
-use borrow.Author.Tests.{eq-eqb, ne_eqb, eqb-false, ltb-false}
+use Rattle.std.proofs.Common.{◌≡◌, ℕ, ◌/◌, ◌%◌, ◌≤◌, Bool, true, false, cond, not, ◌||◌, eqb, ltb, List, length, arith, ltb-false, eq-eqb}
+use Rattle.std.proofs.lemmas.Bool.{eqb-false}
 use Rattle.writing.specs.Writing.{address_bytes_wrong}
 use Rattle.wire.proofs.Checks.{passed}
 use Rattle.wire.proofs.Tested.{two_passed}
-use Rattle.events.specs.declared.answer.Answered.TheVariants.{Done, Refused}
-use Rattle.configuring.specs.Configuring.{new_router, freed}
-use Rattle.station.specs.declared.station.Station.{Station}
-use Rattle.station.specs.declared.station.Stepped.{Stepped}
+use Rattle.events.specs.Result.{done}
+use Rattle.configuring.specs.Configuring.{new_router}
 use Rattle.station.specs.Station.{station_of}
 use Rattle.station.specs.Making.{station_checks, station_refusal, addresses_in, made_of}
 
-module _ (v priority interval : ℕ) (preempt : Bool) (primary : ℕ) (addresses : List ℕ) where
+most_test : (a b c d : Bool) → cond a 14 (cond b 15 (cond c 16 (cond d 17 0))) ≤ 17
+most_test true b c d = omega arith
+most_test false true c d = omega arith
+most_test false false true d = omega arith
+most_test false false false true = omega arith
+most_test false false false false = omega arith
+
+pub refusal_most : (v priority interval : ℕ) (addresses : List ℕ) → station_refusal v priority interval addresses ≤ 17
+unfolding station_refusal
+refusal_most v priority interval addresses =
+    most_test (eqb v 0) (eqb priority 0) (eqb interval 0) (address_bytes_wrong addresses)
+
+module _ (v priority interval : ℕ) (addresses : List ℕ) where
   pub made_most : station_refusal v priority interval addresses ≡ 0 → length addresses ≤ 64
   unfolding station_refusal address_bytes_wrong
   made_most e =
@@ -32,18 +36,11 @@ module _ (v priority interval : ℕ) (preempt : Bool) (primary : ℕ) (addresses
       let p = passed (station_checks v priority interval addresses) (omega arith) e in
       eqb-false v 0 p.0
 
-  pub made_refused : (number : ℕ) (station : Station) → number ≡ station_refusal v priority interval addresses
-      → ¬ (number ≡ 0)
-      → station ≡ station_of primary freed (replicate 64 0)
-      → ◌≡◌ {A = Stepped} (record { station = station; answer = Refused number })
-      (made_of v priority interval preempt primary addresses)
+  pub made_done : (preempt : Bool) (primary : ℕ) → station_refusal v priority interval addresses ≡ 0
+      → made_of v priority interval preempt primary addresses
+      ≡ record {
+        answer = done 0 0;
+        station = station_of primary (new_router v priority interval preempt (length addresses / 4)) (addresses_in addresses);
+      }
   unfolding made_of
-  made_refused number station e n s = rw (← e, ne_eqb number 0 n, s)
-
-  pub made_done : (station : Station) → station_refusal v priority interval addresses ≡ 0
-      → station
-      ≡ station_of primary (new_router v priority interval preempt (length addresses / 4)) (addresses_in addresses)
-      → ◌≡◌ {A = Stepped} (record { station = station; answer = Done 0 0 })
-      (made_of v priority interval preempt primary addresses)
-  unfolding made_of
-  made_done station e s = rw (eq-eqb (station_refusal v priority interval addresses) 0 e, s)
+  made_done preempt primary e = rw (eq-eqb (station_refusal v priority interval addresses) 0 e)

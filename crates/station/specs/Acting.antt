@@ -3,7 +3,7 @@ use Rattle.std.specs.Prelude.{ℕ, ◌+◌, List, cond, eqb, ltb, length, take}
 use Rattle.writing.specs.Writing.{over}
 use Rattle.states.specs.declared.step.Outcome.{Outcome}
 use Rattle.output.specs.Output.{bytes_of, need_of}
-use Rattle.events.specs.declared.answer.Answered.TheVariants.{Done, Short}
+use Rattle.events.specs.Result.{done, short}
 use Rattle.station.specs.declared.station.Station.{Station}
 use Rattle.station.specs.Station.{Result, list_of, with_router, with_frame}
 
@@ -25,9 +25,9 @@ kept_by s outcome =
 unfoldable pub acted_by : Station → Outcome → ℕ → List ℕ → Result
 acted_by s outcome leftover room =
     cond (ltb (length room) (needed_by s outcome))
-    (record { answer = Short (needed_by s outcome); station = s; room = room })
+    (record { answer = short (needed_by s outcome); station = s; room = room })
     (record {
-      answer = Done (needed_by s outcome) leftover;
+      answer = done (needed_by s outcome) leftover;
       station = kept_by s outcome;
       room = over (written_by s outcome) room;
     })

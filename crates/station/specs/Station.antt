@@ -2,25 +2,24 @@
 use Rattle.std.specs.Prelude.{ℕ, ◌*◌, ◌%◌, ◌≡◌, List, Bool, not, eqb, length, take, drop, replicate}
 use Rattle.writing.specs.Writing.{over}
 use Rattle.states.specs.declared.record.Router.{Router}
-use Rattle.events.specs.declared.answer.Answered.{Answered}
-use Rattle.events.specs.declared.answer.Answered.TheVariants.{Refused}
+use Rattle.events.specs.Result.{Answer, answer_of, refusal}
 use Rattle.station.specs.declared.station.Station.{Station}
 use Rattle.station.specs.declared.station.Stepped.{Stepped}
 
 pub record Result : Type 0 where
-  pub answer : Answered
+  pub answer : Answer
   pub station : Station
   pub room : List ℕ
 
 -- the promise of a step: its answer, the whole station and the whole room
 pub record Leaves (result : Result) (stepped : Stepped) (room : List ℕ) : Type 0 where
-  pub answer_is : stepped.answer ≡ result.answer
+  pub answer_is : answer_of stepped.answer ≡ result.answer
   pub station_is : stepped.station ≡ result.station
   pub room_is : room ≡ result.room
 
 -- "A refusal answers its number": "Output bytes stay untouched"
 abbrev pub refuses : ℕ → Station → List ℕ → Result
-refuses number s room = record { answer = Refused number; station = s; room = room }
+refuses number s room = record { answer = refusal number; station = s; room = room }
 
 -- whether the table of a station has its router: "virtual router number (VRID) 1 to 255", so where it is 0 there is none
 abbrev pub has_router : Station → Bool

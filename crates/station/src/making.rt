@@ -1,48 +1,35 @@
 // A station just configured.
-ghost use Rattle.std.specs.Prelude.{◌≡◌};
+ghost use Rattle.std.specs.Prelude.{◌≡◌, ◌≤◌, length};
 ghost use Rattle.station.specs.Station.{station_of};
-ghost use Rattle.station.specs.Making.{station_refusal, made_of};
+ghost use Rattle.station.specs.Making.{Makes, addresses_in, made_of};
 
 use crate::station::{Station, Stepped};
-use configuring::{address_count, new_router};
-use events::answer::Answered;
-use rooms::put;
+use configuring::{Settings, address_count, new_router, settings_refusal};
+use events::answer::Done;
 use states::record::Router;
-use writing::addresses::address_bytes_wrong;
-
-// The first of refusals 14 to 17, or 0.
-fn station_refusal(vrid: u8, priority: u8, interval: u8, addresses: &[u8]) -> u32
-    ensures { result ≡ station_refusal vrid priority interval addresses.now }
-{
-    if vrid == 0 {
-        return 14;
-    }
-    if priority == 0 {
-        return 15;
-    }
-    if interval == 0 {
-        return 16;
-    }
-    if address_bytes_wrong(addresses) {
-        return 17;
-    }
-    0
-}
 
 // A station that has counted and sent nothing.
 fn station_of(primary: u32, router: Router, addresses: [u8; 64]) -> Station
     ensures { result ≡ station_of primary router addresses }
 {
-    let refusals = [0u32; 9];
-    let frame = [0u8; 114];
     Station {
-        primary: primary,
-        router: router,
-        refusals: refusals,
-        addresses: addresses,
-        frame: frame,
+        primary,
+        router,
+        refusals: [0; 9],
+        addresses,
+        frame: [0; 114],
         sent: 0,
     }
+}
+
+// The virtual addresses in a station's 64 bytes.
+fn addresses_in(addresses: &[u8]) -> [u8; 64]
+    requires { length addresses.now ≤ 64 }
+    ensures { result ≡ addresses_in addresses.now }
+{
+    let mut own = [0; 64];
+    own[..addresses.len()].copy_from_slice(addresses);
+    own
 }
 
 // A station with one virtual router in Initialize; refuses by 14 to 17, and then no router is there.
@@ -54,21 +41,27 @@ pub fn new_station(
     primary: u32,
     addresses: &[u8],
 ) -> Stepped
-    ensures { result ≡ made_of vrid priority interval preempt primary addresses.now }
+    ensures { Makes (made_of vrid priority interval preempt primary addresses.now) result }
 {
-    let mut own = [0u8; 64];
-    let refusal = station_refusal(vrid, priority, interval, addresses);
-    if refusal != 0 {
+    let settings = Settings {
+        vrid,
+        priority,
+        interval,
+        preempt,
+    };
+    if let Err(refusal) = settings_refusal(settings, addresses) {
         let none = new_router(0, 0, 0, false, 0);
         return Stepped {
-            station: station_of(primary, none, own),
-            answer: Answered::Refused(refusal),
+            station: station_of(primary, none, [0; 64]),
+            answer: Err(refusal),
         };
     }
-    put(&mut own, 0, addresses);
     let fresh = new_router(vrid, priority, interval, preempt, address_count(addresses));
     Stepped {
-        station: station_of(primary, fresh, own),
-        answer: Answered::Done(0, 0),
+        station: station_of(primary, fresh, addresses_in(addresses)),
+        answer: Ok(Done {
+            written: 0,
+            leftover: 0,
+        }),
     }
 }

@@ -1,6 +1,10 @@
 // What a station is, and what a step on it comes to.
-use events::answer::Answered;
+ghost use Rattle.std.specs.Prelude.{◌≡◌, ◌%◌, ◌≤◌, length};
+ghost use Rattle.station.specs.Station.{list_of, with_frame};
+
+use events::answer::Done;
 use states::record::Router;
+use wire::refusal::Refusal;
 
 #[derive(Clone, Copy)]
 pub struct Station {
@@ -11,13 +15,40 @@ pub struct Station {
     // the virtual addresses, four bytes each: the router's count says how many
     pub addresses: [u8; 64],
     // the latest advertisement frame
+    // Kept: a station's memory is fixed, and any value is a station: promises speak of the first bytes, as many as were sent.
     pub frame: [u8; 114],
     // how long that is, 0 where nothing was sent yet
     pub sent: usize,
 }
 
+impl Station {
+    // Its virtual addresses.
+    #[tactic(auto, unfolding(crate::specs::Station::list_of))]
+    pub fn list(&self) -> &[u8]
+        ensures list { result.now ≡ list_of self.now }
+        ensures whole { length result.now % 4 ≡ 0 }
+        ensures most { length result.now ≤ 64 }
+    {
+        &self.addresses[..4 * usize::from(self.router.count % 17)]
+    }
+
+    // The station with these bytes as its latest advertisement frame.
+    pub fn with_frame(self, bytes: &[u8]) -> Station
+        requires { length bytes.now ≤ 114 }
+        ensures { result ≡ with_frame self bytes.now }
+    {
+        let mut frame = self.frame;
+        frame[..bytes.len()].copy_from_slice(bytes);
+        Station {
+            frame,
+            sent: bytes.len(),
+            ..self
+        }
+    }
+}
+
 #[derive(Clone, Copy)]
 pub struct Stepped {
     pub station: Station,
-    pub answer: Answered,
+    pub answer: Result<Done, Refusal>,
 }

@@ -1,3 +1,2 @@
-pub mod Placed
 pub mod Theorems
-pub mod Advancing
+pub mod Placed

@@ -7,6 +7,7 @@ use mathlib.Core.List.{List}
 use lib.Dec.{eqb, ltb}
 use lib.ListN.{length, length-set}
 use lib.Seq.{get_or-set_other}
+use Rattle.events.proofs.Answers.{one_answer}
 use Rattle.station.specs.declared.station.Station.{Station}
 use Rattle.station.specs.Station.{Result}
 use Rattle.stations.specs.List.{nowhere, placed, refuses_list, stepped_at, delivery_refusal, delivered_at}
@@ -14,7 +15,7 @@ use Rattle.stations.specs.Theorems.{OneCall, OnlyAt, StepOnlyAt, DeliveryOnlyAt}
 
 pub one_call : OneCall
 one_call result a b stations others room other x y = (
-  x.answer_is ∙ sym y.answer_is,
+  one_answer a b (x.answer_is ∙ sym y.answer_is),
   x.stations_are ∙ sym y.stations_are,
   x.room_is ∙ sym y.room_is,
 )

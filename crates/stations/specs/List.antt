@@ -3,21 +3,20 @@ use Rattle.std.specs.Prelude.{ℕ, ◌≡◌, List, [], ◌∷◌, ◌++◌, map
 use Rattle.states.specs.declared.step.Event.TheVariants.{Startup, Shutdown}
 use Rattle.wire.specs.Check.{Check, first_refusal}
 use Rattle.configuring.specs.Configuring.{freed}
-use Rattle.events.specs.declared.answer.Answered.{Answered}
-use Rattle.events.specs.declared.answer.Answered.TheVariants.{Refused}
+use Rattle.events.specs.Result.{Answer, Answered, answer_of, refusal}
 use Rattle.station.specs.declared.station.Station.{Station}
 use Rattle.station.specs.Station.{Result, station_of}
 use Rattle.steps.specs.Steps.{happened_to, clocked_by, delivered_to}
 use Rattle.passing.specs.Passing.{passed}
 
 pub record ListResult : Type 0 where
-  pub answer : Answered
+  pub answer : Answer
   pub stations : List Station
   pub room : List ℕ
 
 -- the promise of a call on the list: its answer, the whole list and the whole room
 pub record LeavesList (result : ListResult) (answer : Answered) (stations : List Station) (room : List ℕ) : Type 0 where
-  pub answer_is : answer ≡ result.answer
+  pub answer_is : answer_of answer ≡ result.answer
   pub stations_are : stations ≡ result.stations
   pub room_is : room ≡ result.room
 
@@ -32,7 +31,7 @@ placed stations at result =
 
 -- a refusal changes nothing
 abbrev pub refuses_list : ℕ → List Station → List ℕ → ListResult
-refuses_list number stations room = record { answer = Refused number; stations = stations; room = room }
+refuses_list number stations room = record { answer = refusal number; stations = stations; room = room }
 
 -- a step on the station of a number: "26 unused station number"
 unfoldable pub stepped_at : (Station → List ℕ → Result) → List Station → ℕ → List ℕ → ListResult

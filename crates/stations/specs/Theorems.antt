@@ -1,6 +1,6 @@
 -- The theorems of the lent list, as statements: each is proved under the same name in proofs/Theorems.antt.
 use Rattle.std.specs.Prelude.{ℕ, ◌≡◌, List, length, get_or}
-use Rattle.events.specs.declared.answer.Answered.{Answered}
+use Rattle.events.specs.Result.{Answered}
 use Rattle.station.specs.declared.station.Station.{Station}
 use Rattle.station.specs.Station.{Result}
 use Rattle.stations.specs.List.{ListResult, LeavesList, nowhere, stepped_at, delivered_at}

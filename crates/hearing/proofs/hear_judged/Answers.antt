@@ -1,17 +1,26 @@
--- `hearing::hear_judged` meets its contract: 9, or the router hears it.
+-- `hearing::hear_judged` meets its contract: refused and counted.
 -- Assumes nothing.
-use Rattle.station.proofs.Acted.{leaves_equal}
-use Rattle.hearing.proofs.Heard.{sought_other, sought_ours}
+use Rattle.std.proofs.Common.{◌≡◌, arith, eq-eqb, ne_eqb}
+use Rattle.wire.specs.Refusal.{refusal_number, room_needed}
+use Rattle.wire.proofs.Refusals.{nonzero, no_room}
+use Rattle.events.specs.Lists.{their_list, lists_match}
+use Rattle.station.specs.Station.{list_of}
+use Rattle.router.proofs.Refused.{refusal_most}
+use Rattle.hearing.specs.Hearing.{refusal_by}
 use Rattle.hearing.proofs.hear_judged.Goals as goal
 
-pub returns-then-own-fields : goal.returns-then-own-fields
-returns-then-own-fields c =
+pub returns-in-Err : goal.returns-in-Err
+unfolding refusal_by
+returns-in-Err c =
     let a = c.args in
-    sought_other a.s a.packet.now a.fields a.out.now _ c.if-own-fields.true c.refuse.ensures
-
-pub returns : goal.returns
-returns c =
-    let a = c.args in
-    let ours = c.if-own-fields.false in
-    leaves_equal _ _ (sought_ours a.s a.packet.now a.fields a.out.now ours)
-    c.hear_fields.ensures
+    let refusal = c.in-Err.refusal in
+    let most = refusal_most a.s.router a.fields (lists_match (list_of a.s) (their_list a.packet.now a.fields)) in
+    let room : room_needed refusal ≡ 0 = no_room refusal (λ e. omega (arith, most, c.in-Err.ensures)) in
+    let named = ne_eqb a.s.router.vrid 0 (λ e. omega arith) in
+    let ours = eq-eqb a.fields.vrid a.s.router.vrid (omega arith) in
+    let some = ne_eqb (refusal_number refusal) 0 (nonzero refusal) in
+    record {
+      answer_is = rw (named, ours, ← c.in-Err.ensures, some, room);
+      station_is = rw (named, ours, ← c.in-Err.ensures, some, c.count_refusal.ensures);
+      room_is = rw (named, ours, ← c.in-Err.ensures, some);
+    }

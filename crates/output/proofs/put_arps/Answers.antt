@@ -1,8 +1,9 @@
 -- `output::put_arps` meets its contract.
 -- Assumes nothing.
-use Rattle.std.proofs.Common.{rules, ◌≡◌, ◌*◌, length, ℕ, ◌+◌, arith, refl, sym, ◌∙◌, take, drop, List, ◌++◌}
+use Rattle.std.proofs.Common.{rules, ◌≡◌, ◌*◌, length, ℕ, ◌+◌, arith, refl, sym, ◌∙◌, take, drop, get_or, List, ◌++◌}
 use Rattle.std.proofs.lemmas.Grind.{common_steps}
 use Rattle.writing.specs.Writing.{over}
+use Rattle.sums.specs.Number.{number_of}
 use Rattle.output.specs.Output.{arps_of}
 use Rattle.output.proofs.Arps.{within, left_after, arps_turn}
 use Rattle.output.proofs.put_arps.Goals as goal
@@ -31,6 +32,8 @@ loop-k-preserved c =
     let n = c.in-Some.ensures.steps in
     let whole : length chunk ≡ 4 = n.0.1.1 ∙ l.size in
     let left : drop (4 * k) a.list.now ≡ chunk ++ tail = sym l.left ∙ n.0.1.0 in
+    let address : c.from_be_bytes-address.result ≡ number_of (get_or chunk 0 0) (get_or chunk 1 0) (get_or chunk 2 0) (get_or chunk 3 0) =
+    omega arith in
     let next : c.next.new.self.count ≡ k + 1 = n.2 in
     let here : c.in-Some.k ≡ k = n.1 in
     record {
@@ -40,6 +43,6 @@ loop-k-preserved c =
       written =
           rw (next, here)
           (arps_turn a.list.now chunk tail k whole left a.vrid _ a.room.now c.loop-k.room _ l.within l.written
-          c.number-address.ensures (rw here at c.put_arp.ensures));
+          address (rw here at c.put_arp.ensures));
       long = search rules;
     }

@@ -16,7 +16,7 @@ returns-in-Takeover c =
     let list = a.list.now in
     let room = a.room.now in
     let frame = frame_of r.vrid r.priority r.interval a.primary list in
-    part_behind frame (arps_of r.vrid list) room _ _ (50 + length list) c.put_advertisement-in-Takeover.ensures
+    part_behind frame (arps_of r.vrid list) room _ _ (50 + length list) c.put-in-Takeover.ensures
     (sym (frame_length r.vrid r.priority r.interval a.primary list))
     c.put_arps.ensures
     ∙ ap (λ (w : Writes). over (bytes_of w r a.primary list) room) (sym c.in-Takeover.is)

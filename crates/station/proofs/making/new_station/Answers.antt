@@ -1,36 +1,42 @@
 -- `station::making::new_station` meets its contract: refused, or made.
 -- Assumes nothing.
-use mathlib.Core.Path.{refl, sym, ◌∙◌}
-use native.Mathlib.Omega.{arith}
-use Rattle.writing.proofs.Pasting.{nothing, put_next}
-use Rattle.station.proofs.Made.{made_most, made_refused, made_done}
+use Rattle.std.proofs.Common.{◌≡◌, sym, arith, eq-eqb, ne_eqb}
+use Rattle.wire.specs.Refusal.{room_needed}
+use Rattle.wire.proofs.Refusals.{nonzero, no_room}
+use Rattle.station.specs.Making.{made_of}
+use Rattle.station.proofs.Made.{refusal_most, made_most}
 use Rattle.station.proofs.making.new_station.Goals as goal
 
-pub returns-then-refusal-ne0 : goal.returns-then-refusal-ne0
-returns-then-refusal-ne0 c =
+pub returns-in-Err : goal.returns-in-Err
+unfolding made_of
+returns-in-Err c =
     let a = c.args in
-    made_refused a.vrid a.priority a.interval a.preempt a.primary a.addresses.now _ _
-    c.station_refusal-refusal.ensures c.if-refusal-ne0.true
-    (c.station_of.ensures ∙ rw c.new_router-none.ensures)
+    let refusal = c.in-Err.refusal in
+    let number = c.in-Err.ensures in
+    let most = refusal_most a.vrid a.priority a.interval a.addresses.now in
+    let room : room_needed refusal ≡ 0 = no_room refusal (λ e. omega arith) in
+    let some = ne_eqb _ 0 (nonzero refusal) in
+    record {
+      answer_is = rw (← number, some, room);
+      station_is = rw (← number, some, c.station_of.ensures, c.new_router-none.ensures);
+    }
 
-pub put-requires : goal.put-requires
-put-requires c =
+pub addresses_in-requires : goal.addresses_in-requires
+addresses_in-requires c =
     let a = c.args in
-    let none = sym c.station_refusal-refusal.ensures ∙ c.if-refusal-ne0.false in
-    let most = made_most a.vrid a.priority a.interval a.preempt a.primary a.addresses.now none in
-    omega arith
+    made_most a.vrid a.priority a.interval a.addresses.now (sym c.in_default.ensures)
 
 pub address_count-requires : goal.address_count-requires
 address_count-requires c =
     let a = c.args in
-    let none = sym c.station_refusal-refusal.ensures ∙ c.if-refusal-ne0.false in
-    made_most a.vrid a.priority a.interval a.preempt a.primary a.addresses.now none
+    made_most a.vrid a.priority a.interval a.addresses.now (sym c.in_default.ensures)
 
 pub returns : goal.returns
+unfolding made_of
 returns c =
-    let a = c.args in
-    let none = sym c.station_refusal-refusal.ensures ∙ c.if-refusal-ne0.false in
-    let stands = put_next a.addresses.now _ nothing c.put.ensures refl in
-    made_done a.vrid a.priority a.interval a.preempt a.primary a.addresses.now _ none
-    (c.station_of-2.ensures
-    ∙ rw (c.new_router-fresh.ensures, c.address_count.ensures, stands.room_is))
+    let none = eq-eqb _ 0 (sym c.in_default.ensures) in
+    record {
+      answer_is = rw none;
+      station_is =
+          rw (none, c.station_of-2.ensures, c.addresses_in.ensures, c.new_router-fresh.ensures, c.address_count.ensures);
+    }
