@@ -135,9 +135,9 @@ fresh_held : (f g : Found) (words : List ℕ) → Held words → (v priority int
     → place_of words v ≡ g → is_found f ≡ true → is_found g ≡ false → InRange (new_router v priority interval preempt n)
     → (1 ≤ interval) × (1 ≤ priority) × (1 ≤ n) × (n ≤ 16) → ¬ (v ≡ 0)
     → Held (set_record words (place_in f) (new_router v priority interval preempt n))
-fresh_held None g words held v priority interval preempt n a b c d range i some = absurd (let z : ◌≡◌ {A = ℕ} 0 1 = cc in omega arith)
+fresh_held None g words held v priority interval preempt n a b c d range i some = absurd cc
 fresh_held (Some q) (Some k) words held v priority interval preempt n a b c d range i some =
-    absurd (let z : ◌≡◌ {A = ℕ} 0 1 = cc in omega arith)
+    absurd cc
 fresh_held (Some q) None words held v priority interval preempt n a b c d range i some =
     let l = found words 0 q a in
     store_held words held q (omega (arith, l.below)) (new_router v priority interval preempt n) range refl (λ z. i)
@@ -164,7 +164,7 @@ configure_test true words held v priority interval preempt addresses a b c e =
 -- removing: the place gets no VRID
 free_held : (f : Found) (words : List ℕ) → Held words → (v : ℕ) → router_place words v ≡ f → is_found f ≡ true
     → Held (set_record words (place_in f) freed)
-free_held None words held v s e = absurd (let z : ◌≡◌ {A = ℕ} 0 1 = cc in omega arith)
+free_held None words held v s e = absurd cc
 free_held (Some p) words held v s e =
     store_held words held p (sought_word words v p s).0 freed
     (record { vrid = omega arith; priority = omega arith; interval = omega arith; count = omega arith })

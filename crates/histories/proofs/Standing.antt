@@ -68,7 +68,7 @@ module _ (m : Memory) (held : Held m.words) (v p : ℕ) (at : router_place m.wor
   remove_test : (s t : Bool) (u : ℕ) → eqb u v ≡ s → eqb (remove_refusal m.words u) 0 ≡ t → (s && t) ≡ false
       → StillBy (remove u)
   remove_test false t u e f n = by (remove u) (eqb-false u v e)
-  remove_test true true u e f n = absurd (let z : ◌≡◌ {A = ℕ} 0 1 = cc in omega arith)
+  remove_test true true u e f n = absurd cc
   remove_test true false u e f n =
       let unchanged : (called m (remove u)).words ≡ m.words = rw f in
       record {

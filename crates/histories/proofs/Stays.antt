@@ -93,7 +93,7 @@ stored_test words q r v below long new old k (inr n) = ap (λ (x : ℕ). eqb x v
 
 -- a virtual router is found by its number
 found_test : (t : Bool) (words : List ℕ) (v p : ℕ) → cond t None (place_of words v) ≡ Some p → place_of words v ≡ Some p
-found_test true words v p e = absurd (let z : ◌≡◌ {A = ℕ} 0 1 = cc in omega arith)
+found_test true words v p e = absurd cc
 found_test false words v p e = e
 
 sought_found : (words : List ℕ) (v p : ℕ) → router_place words v ≡ Some p → place_of words v ≡ Some p
@@ -121,8 +121,7 @@ module _ (words lists : List ℕ) (held : Held words) (v p : ℕ) (at : router_p
   new_number_lem u priority interval addresses e z =
       let checks = passed (configure_checks words u priority interval addresses) (omega arith) e in
       let there : is_found (place_of words u) ≡ true = ap (λ (k : ℕ). is_found (place_of words k)) z ∙ ap is_found (sought_found words v p at) in
-      let y : ◌≡◌ {A = ℕ} 0 1 = cc in
-      omega arith
+      cc
 
   -- another place, by its first word
   elsewhere : (q u : ℕ) → get_or words (base_of q) 0 ≡ u → ¬ (u ≡ v) → p ≡ q → ⊥

@@ -24,7 +24,7 @@ use Rattle.segment.proofs.Computed.{state_of, plain, stands}
 
 -- a Master of the row stands at 8 or above
 late_test : (a b : Bool) (i : ℕ) → ltb i 4 ≡ a → ltb i 8 ≡ b → state_of (cond a idle (cond b waiting leading)) ≡ Master → 8 ≤ i
-late_test true b i e f h = absurd (let z : ◌≡◌ {A = ℕ} 0 1 = cc in omega arith)
+late_test true b i e f h = absurd cc
 late_test false true i e f h = absurd (not_master h)
 late_test false false i e f h = ltb-false i 8 f
 

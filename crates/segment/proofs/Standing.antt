@@ -53,7 +53,7 @@ module _ (vrid interval : ℕ) (addresses : List ℕ) (primary priority : ℕ) (
 
 pub found_is : (f : Found) → is_found f ≡ true → f ≡ Some (place_in f)
 found_is (Some p) e = refl
-found_is None e = absurd (let z : ◌≡◌ {A = ℕ} 0 1 = cc in omega arith)
+found_is None e = absurd cc
 
 -- where the segment's router changes and nothing else does, the station stands where it stood
 module _ (vrid interval : ℕ) (addresses : List ℕ) (primary priority : ℕ) (m : Memory)

@@ -22,7 +22,7 @@ use Rattle.segment.proofs.Deliveries.{priority_of, address_of, Standing, begins,
 use Rattle.segment.proofs.Deliveries.{other, goes_down, stands_up}
 
 master_or_not : (s : State) → (s ≡ Master) ⊎ (s ≡ Master → ⊥)
-master_or_not Initialize = inr (λ e. let z : ◌≡◌ {A = ℕ} 0 1 = cc in omega arith)
+master_or_not Initialize = inr (λ e. cc)
 master_or_not Backup = inr not_master
 master_or_not Master = inl refl
 
