@@ -15,7 +15,8 @@ use Rattle.text.proofs.Appending.{appended}
 use Rattle.text.proofs.Spelling.{decimal_one, decimal_more}
 use Rattle.station.specs.declared.station.Station.{Station}
 use Rattle.script.specs.Segment.{Segment}
-use Rattle.script.specs.Lines.{Printed, letter_of, letters_of, line_of, refused_line}
+use Rattle.states.specs.Letter.{letter_of}
+use Rattle.script.specs.Lines.{Printed, letters_of, line_of, refused_line}
 
 -- nothing is put yet
 pub begins : (out : List ℕ) (next : ℕ) → next ≤ length out → Appended out next [] out next

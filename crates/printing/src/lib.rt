@@ -4,25 +4,14 @@
 ghost use Rattle.std.specs.Prelude.{◌≡◌, ◌∷◌, ◌≤◌, Some, length};
 ghost use Rattle.text.specs.Appended.{Appended};
 ghost use Rattle.wire.specs.Refusal.{refusal_number};
-ghost use Rattle.script.specs.Lines.{Printed, letter_of, letters_of, line_of, printed_of, refused_line};
+ghost use Rattle.script.specs.Lines.{Printed, letters_of, line_of, printed_of, refused_line};
 ghost use Rattle.script.specs.Progress.{segment_in};
 
 use script::kinds::Kind;
 use script::progress::Progress;
-use states::record::State;
 use station::station::Station;
 use text::{put, put_byte, put_decimal};
 use wire::refusal::Refusal;
-
-fn letter_of(state: State) -> u8
-    ensures { result ≡ letter_of state }
-{
-    match state {
-        State::Initialize => b'I',
-        State::Backup => b'B',
-        State::Master => b'M',
-    }
-}
 
 // Puts a space and a letter for each station that is used, as much as fits.
 fn put_letters(out: &mut [u8], at: usize, stations: &[Station; 16], used: usize) -> usize
@@ -31,7 +20,7 @@ fn put_letters(out: &mut [u8], at: usize, stations: &[Station; 16], used: usize)
 {
     let mut next = put_byte(out, at, b' ');
     for station in stations.iter().take(used) {
-        next = put_byte(out, next, letter_of(station.router.state));
+        next = put_byte(out, next, station.router.state.letter());
     }
     next
 }

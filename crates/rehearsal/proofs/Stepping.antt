@@ -96,10 +96,6 @@ pub over_long : (text before : List ℕ) → length text ≤ length before → l
 over_long text before fits =
     omega (arith, length-append text (drop (length text) before), length-drop (length text) before)
 
-pub mid_whole : (at : ℕ) (room : List ℕ) → at ≤ length room
-    → length room - at ≤ length (mid_of at (length room - at) room)
-mid_whole at room h = omega (arith, length-take (length room - at) (drop at room), length-drop at room)
-
 mid_long : (at : ℕ) (room : List ℕ) → length (mid_of at (length room - at) room) ≤ length room - at
 mid_long at room = omega (arith, length-take (length room - at) (drop at room))
 
@@ -124,11 +120,6 @@ module _ {script : List ℕ} {p : Progress} {before : List ℕ} {here : Progress
 
   pub written_fits : written ≤ length after
   written_fits = omega (arith, room_long, so_far.printed.written_is, so_far.printed.fits)
-
-  pub more_fits : (line : List ℕ) (more : ℕ) (part : List ℕ)
-      → Printed line (mid_of written (length after - written) after) more part → written + more ≤ length before
-  more_fits line more part second =
-      omega (arith, room_long, written_fits, second.written_is, second.fits, mid_long written after)
 
   -- a record more
   pub turn : (next : Progress) (more : ℕ) (part : List ℕ) → stops_at here (length after - written) ≡ false

@@ -1,7 +1,7 @@
 -- The lines that the rehearsal prints, in ASCII (01, 'The rehearsal program').
 use Rattle.std.specs.Prelude.{ℕ, ◌≤◌, ◌≡◌, Option, List, [], ◌∷◌, ◌++◌, map, cond, ltb, length, take}
 use Rattle.writing.specs.Writing.{over}
-pub use Rattle.states.specs.Letter.{letter_of}
+use Rattle.states.specs.Letter.{letter_of}
 use Rattle.text.specs.Digits.{decimal_of}
 use Rattle.station.specs.declared.station.Station.{Station}
 use Rattle.script.specs.Segment.{Segment}

@@ -18,7 +18,7 @@ use Rattle.station.specs.Station.{list_of}
 use Rattle.station.specs.Making.{station_refusal, made_of}
 use Rattle.station.specs.Acting.{acted_by}
 use Rattle.steps.specs.Steps.{happened_to, clocked_by}
-use Rattle.passing.specs.Passing.{fresh_room, leftover_of, passed_in, passed}
+use Rattle.passing.specs.Passing.{fresh_room, passed_in, passed}
 use Rattle.stations.specs.List.{stepped_at, all_passed}
 use Rattle.script.specs.Kinds.{kind_of}
 use Rattle.script.specs.Record.{refusal_of}
@@ -30,7 +30,7 @@ use Rattle.scripted.proofs.Letters.{shown, shows}
 use Rattle.scripted.proofs.Theorems.{one_master_in_script}
 
 -- time that fires once, and leaves nothing over
-passes_once : (s : Station) (ticks : ℕ) → leftover_of (clocked_by s ticks fresh_room).answer ≡ 0
+passes_once : (s : Station) (ticks : ℕ) → (clocked_by s ticks fresh_room).answer.leftover ≡ 0
     → passed s ticks ≡ (clocked_by s ticks fresh_room).station
 unfolding passed passed_in
 passes_once s ticks e = rw e

@@ -7,9 +7,8 @@ use mathlib.Core.List.{List}
 use Prim.Native.Nat.{ℕ, ◌+◌}
 use lib.Dec.{eqb, ltb, leb}
 use lib.ListN.{length, take}
-use Rattle.judging.specs.declared.Judged.{Judged}
-use Rattle.judging.specs.declared.Judged.TheVariants.{Accepted, Refused}
-use Rattle.judging.specs.Judging.{judged_of}
+use Rattle.judging.specs.Judging.{Judged, judged_of}
+use Rattle.std.specs.Prelude.{Ok, Err}
 use Rattle.states.specs.declared.record.Router.{Router}
 use Rattle.states.specs.declared.record.State.{State}
 use Rattle.states.specs.declared.record.State.TheVariants.{Initialize, Backup, Master}
@@ -73,8 +72,8 @@ unfolding counted_by
 counted s number = inl (refl, refl)
 
 judged : (j : Judged) (s : Station) (packet room : List ℕ) → KeptOrMaster s (judged_by j s packet room).station
-judged (Refused number) s packet room = counted s number
-judged (Accepted f) s packet room =
+judged (Err number) s packet room = counted s number
+judged (Ok f) s packet room =
     let quiet = packet_step s.primary (accepted_of s.router) f.priority f.source in
     either_kept s (has_router s && eqb f.vrid s.router.vrid) (accepted_by s packet f room) _
     (either_kept s (eqb (refusal_by s packet f) 0) _ _ (acted s (accepted_outcome s f) room quiet) (inl (refl, refl)))

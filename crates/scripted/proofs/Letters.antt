@@ -11,7 +11,8 @@ use Rattle.states.specs.declared.record.State.{State}
 use Rattle.states.specs.declared.record.State.TheVariants.{Initialize, Backup, Master}
 use Rattle.station.specs.declared.station.Station.{Station}
 use Rattle.script.specs.Segment.{Segment}
-use Rattle.script.specs.Lines.{letter_of, letters_of}
+use Rattle.states.specs.Letter.{letter_of}
+use Rattle.script.specs.Lines.{letters_of}
 use Rattle.scripted.specs.Scripted.{station_at, ShowsM}
 use Rattle.scripted.proofs.Listed.{first_mapped, past_mapped}
 

@@ -7,7 +7,8 @@ use Rattle.stations.specs.List.{nowhere}
 use Rattle.script.specs.Segment.{Segment}
 use Rattle.script.specs.Kinds.{kind_of, body_length}
 use Rattle.script.specs.Record.{after_record, refusal_of}
-use Rattle.script.specs.Lines.{letter_of, letters_of}
+use Rattle.states.specs.Letter.{letter_of}
+use Rattle.script.specs.Lines.{letters_of}
 use Rattle.script.specs.Segment.{empty_segment}
 
 -- the segment that a script's records leave, where so many bytes are still the body of the one before

@@ -16,7 +16,7 @@ loop-station-preserved c =
     let letter = c.put_byte-next-in-loop-station.ensures in (
       letter.within,
       λ after last a.
-          c.loop-station.invariant.1 after last (rw (letters_step _ _ _ _ _ _ steps.0 steps.1 c.letter_of.ensures) (then letter a)),
+          c.loop-station.invariant.1 after last (rw (letters_step _ _ _ _ _ _ steps.0 steps.1 c.letter.ensures) (then letter a)),
     )
 
 pub returns-clause-letters : goal.returns-clause-letters
