@@ -1,9 +1,9 @@
 // The stations of a record, as far as each has come, and the deliveries among them.
+use byteorder::{BigEndian, ReadBytesExt};
 use records::reading::{Fault, read_flag};
 use station::making::new_station;
 use station::station::Station;
 use stations::list::{clock, deliver, startup};
-use byteorder::{BigEndian, ReadBytesExt};
 use std::alloc::{AllocError, Global};
 use std::io::Read;
 
