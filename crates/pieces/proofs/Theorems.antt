@@ -11,8 +11,9 @@ use lib.Dec.{eqb, ltb, leb}
 use lib.ListN.{length, take, drop, get_or, drop_of_length-le}
 use lib.Seq.{drop-cons, drop-drop, take-append_seam}
 use borrow.Author.Tests.{le-ltb, lt-leb, leb-true, leb-false, ltb-false}
+use Rattle.std.specs.Prelude.{Option}
 use Rattle.wire.proofs.Tested.{two_passed}
-use Rattle.script.specs.declared.segment.Segment.{Segment}
+use Rattle.script.specs.Segment.{Segment}
 use Rattle.script.specs.declared.kinds.Kind.{Kind}
 use Rattle.script.specs.declared.progress.Progress.{Progress}
 use Rattle.rehearsal.specs.declared.Ran.{Ran}
@@ -20,8 +21,9 @@ use Rattle.script.specs.Kinds.{kind_of, body_length}
 use Rattle.script.specs.Record.{after_record, refusal_of}
 use Rattle.script.specs.Lines.{Printed, refused_line, printed_of}
 use Rattle.script.specs.Script.{lines_from, rehearsal_of}
-use Rattle.script.specs.Progress.{started, exhausted}
-use Rattle.rehearsal.specs.Run.{due_of, ends, record_step, step_of, left_of, stops_at, Runs, stops, goes}
+use Rattle.script.specs.Progress.{started, exhausted, segment_in, progress_in}
+use Rattle.turns.specs.Turn.{ends, record_step, step_of}
+use Rattle.rehearsal.specs.Run.{due_of, left_of, stops_at, Runs, stops, goes}
 use Rattle.pieces.specs.Theorems.{OnePrinted, OneRun, RunDue, RunFalls, RunWithin, Pieces, done, piece, PiecesTogether}
 use Rattle.rehearsal.proofs.Stepping.{left_falls, over_long}
 
@@ -79,70 +81,70 @@ module _ (script : List ℕ) (segment : Segment) (at number : ℕ) (fits : ltb 6
       sym (no_lines segment number (drop at script) (ap length past))
   due_test false e = rw (le-ltb (at + 1) number placed)
 
-  due_next : due_of script (record { segment = segment; at = at; number = number; done = false })
+  due_next : due_of script (progress_in segment at number false)
       ≡ lines_from segment number (drop at script) 0
   unfolding due_of
   due_next = rw fits (due_test (leb (length script) at) refl)
 
-due_done : (script : List ℕ) (p : Progress) → p.done ≡ true → due_of script p ≡ []
+due_done : (script : List ℕ) (p : Progress) → p.reading.done ≡ true → due_of script p ≡ []
 unfolding due_of
 due_done script p d = rw d
 
 -- one record: its line is due first, and then what is due after it
 module _ (script : List ℕ) (p : Progress) where
-  abbrev kind : Kind
-  kind = kind_of (get_or script p.at 0)
+  abbrev kind : Option Kind
+  kind = kind_of (get_or script p.reading.at 0)
 
   abbrev body : List ℕ
-  body = drop (p.at + 1) script
+  body = drop (p.reading.at + 1) script
 
   -- nothing is due after the end
   ended_due : (line : List ℕ) → line ≡ line ++ due_of script (ends p line).progress
   unfolding due_of
   ended_due line = sym (append-nil line)
 
-  due_undone : p.done ≡ false
+  due_undone : p.reading.done ≡ false
       → due_of script p
       ≡ cond (ltb 65536 (length script)) (refused_line 0 30)
-      (cond (exhausted script p) [] (lines_from p.segment p.number (drop p.at script) 0))
+      (cond (exhausted script p) [] (lines_from (segment_in p) p.reading.number (drop p.reading.at script) 0))
   unfolding due_of
   due_undone d = rw d
 
-  line_due : (t : Bool) → ltb 65536 (length script) ≡ false → p.number ≤ p.at + 1
-      → eqb (refusal_of p.segment kind body) 0 ≡ t
+  line_due : (t : Bool) → ltb 65536 (length script) ≡ false → p.reading.number ≤ p.reading.at + 1
+      → eqb (refusal_of (segment_in p) kind body) 0 ≡ t
       → cond t
-      (printed_of kind p.number (after_record kind p.segment body)
-      ++ lines_from (after_record kind p.segment body) (p.number + 1) body (body_length kind))
-      (refused_line p.number (refusal_of p.segment kind body))
+      (printed_of kind p.reading.number (after_record kind (segment_in p) body)
+      ++ lines_from (after_record kind (segment_in p) body) (p.reading.number + 1) body (body_length kind))
+      (refused_line p.reading.number (refusal_of (segment_in p) kind body))
       ≡ (record_step p kind body).line ++ due_of script (record_step p kind body).progress
   line_due true fits placed e =
-      let segment = after_record kind p.segment body in
-      let next = due_next script segment (p.at + 1 + body_length kind) (p.number + 1) fits (omega arith) in
+      let segment = after_record kind (segment_in p) body in
+      let next = due_next script segment (p.reading.at + 1 + body_length kind) (p.reading.number + 1) fits (omega arith) in
       rw (
         e,
-        skipped segment (p.number + 1) body (body_length kind),
-        drop-drop (body_length kind) (p.at + 1) script,
+        skipped segment (p.reading.number + 1) body (body_length kind),
+        drop-drop (body_length kind) (p.reading.at + 1) script,
         next,
       )
-  line_due false fits placed e = rw e (ended_due (refused_line p.number (refusal_of p.segment kind body)))
+  line_due false fits placed e = rw e (ended_due (refused_line p.reading.number (refusal_of (segment_in p) kind body)))
 
   -- the next record of a script that is neither too long nor exhausted
   record_due : ltb 65536 (length script) ≡ false → exhausted script p ≡ false
-      → lines_from p.segment p.number (drop p.at script) 0
+      → lines_from (segment_in p) p.reading.number (drop p.reading.at script) 0
       ≡ (record_step p kind body).line ++ due_of script (record_step p kind body).progress
   unfolding lines_from
   record_due fits more =
-      let tests = two_passed (leb (length script) p.at) (ltb (p.at + 1) p.number) more in
-      let within = leb-false (length script) p.at tests.0 in
-      let placed = ltb-false (p.at + 1) p.number tests.1 in
-      let first : drop p.at script ≡ get_or script p.at 0 ∷ body =
-      drop-cons script p.at 0 within
-      ∙ ap (λ (n : ℕ). get_or script p.at 0 ∷ drop n script) (sym (add-one p.at)) in
-      ap (λ (l : List ℕ). lines_from p.segment p.number l 0) first
-      ∙ line_due (eqb (refusal_of p.segment kind body) 0) fits placed refl
+      let tests = two_passed (leb (length script) p.reading.at) (ltb (p.reading.at + 1) p.reading.number) more in
+      let within = leb-false (length script) p.reading.at tests.0 in
+      let placed = ltb-false (p.reading.at + 1) p.reading.number tests.1 in
+      let first : drop p.reading.at script ≡ get_or script p.reading.at 0 ∷ body =
+      drop-cons script p.reading.at 0 within
+      ∙ ap (λ (n : ℕ). get_or script p.reading.at 0 ∷ drop n script) (sym (add-one p.reading.at)) in
+      ap (λ (l : List ℕ). lines_from (segment_in p) p.reading.number l 0) first
+      ∙ line_due (eqb (refusal_of (segment_in p) kind body) 0) fits placed refl
 
   test_due : (t : Bool) → ltb 65536 (length script) ≡ false → exhausted script p ≡ t
-      → cond t [] (lines_from p.segment p.number (drop p.at script) 0)
+      → cond t [] (lines_from (segment_in p) p.reading.number (drop p.reading.at script) 0)
       ≡ (cond t (ends p []) (record_step p kind body)).line
       ++ due_of script (cond t (ends p []) (record_step p kind body)).progress
   test_due true fits e = ended_due []
@@ -150,14 +152,14 @@ module _ (script : List ℕ) (p : Progress) where
 
   long_due : (t : Bool) → ltb 65536 (length script) ≡ t
       → cond t (refused_line 0 30)
-      (cond (exhausted script p) [] (lines_from p.segment p.number (drop p.at script) 0))
+      (cond (exhausted script p) [] (lines_from (segment_in p) p.reading.number (drop p.reading.at script) 0))
       ≡ (cond t (ends p (refused_line 0 30)) (cond (exhausted script p) (ends p []) (record_step p kind body))).line
       ++ due_of script
       (cond t (ends p (refused_line 0 30)) (cond (exhausted script p) (ends p []) (record_step p kind body))).progress
   long_due true e = ended_due (refused_line 0 30)
   long_due false e = test_due (exhausted script p) e refl
 
-  step_due : p.done ≡ false → due_of script p ≡ (step_of script p).line ++ due_of script (step_of script p).progress
+  step_due : p.reading.done ≡ false → due_of script p ≡ (step_of script p).line ++ due_of script (step_of script p).progress
   unfolding step_of
   step_due d = due_undone d ∙ long_due (ltb 65536 (length script)) refl
 
@@ -166,7 +168,7 @@ runs_due : {script text : List ℕ} {p q : Progress} {room : ℕ} → Runs scrip
     → due_of script p ≡ text ++ due_of script q
 runs_due (stops t) = refl
 runs_due {script} {text} {p} {q} {room} (goes t r) =
-    step_due script p (two_passed p.done (ltb room 32) t).0
+    step_due script p (two_passed p.reading.done (ltb room 32) t).0
     ∙ ap (λ (l : List ℕ). (step_of script p).line ++ l) (runs_due r)
     ∙ sym (append_assoc (step_of script p).line _ (due_of script q))
 
@@ -182,10 +184,10 @@ runs_left : {script text : List ℕ} {p q : Progress} {room : ℕ} → Runs scri
     → left_of script q ≤ left_of script p
 runs_left (stops t) = le_refl _
 runs_left {script} {text} {p} {q} {room} (goes t r) =
-    le_trans (runs_left r) (le_of_lt (left_falls script p (two_passed p.done (ltb room 32) t).0))
+    le_trans (runs_left r) (le_of_lt (left_falls script p (two_passed p.reading.done (ltb room 32) t).0))
 
 runs_fall : {script : List ℕ} {p : Progress} {room : ℕ} {text : List ℕ} {q : Progress} → Runs script p room text q
-    → p.done ≡ false → 32 ≤ room → left_of script q < left_of script p
+    → p.reading.done ≡ false → 32 ≤ room → left_of script q < left_of script p
 runs_fall {script} {p} {room} {text} {q} (stops t) d h =
     never (stops_at p room) t (rw (d, le-ltb room 32 h))
 runs_fall {script} {p} {room} {text} {q} (goes t r) d h = lt_of_le_of_lt (runs_left r) (left_falls script p d)

@@ -30,7 +30,7 @@ RunDue =
 abbrev pub RunFalls : Type 0
 RunFalls =
     (script : List ℕ) (p : Progress) (before : List ℕ) (ran : Ran) (after : List ℕ)
-    → RunLeaves script p before ran after → p.done ≡ false → 32 ≤ length before
+    → RunLeaves script p before ran after → p.reading.done ≡ false → 32 ≤ length before
     → left_of script ran.progress < left_of script p
 
 -- a run keeps the room's length, and writes within it
@@ -41,7 +41,7 @@ RunWithin =
 
 -- runs one after another, each with any room, until all is done; and what they write together
 pub data Pieces (script : List ℕ) : Progress → List ℕ → Type 0 where
-  done : {p : Progress} → p.done ≡ true → Pieces script p []
+  done : {p : Progress} → p.reading.done ≡ true → Pieces script p []
   piece : {p : Progress} {before after rest : List ℕ} {ran : Ran} → RunLeaves script p before ran after
       → Pieces script ran.progress rest → Pieces script p (take ran.written after ++ rest)
 

@@ -1,21 +1,20 @@
 -- The lines of the rehearsal in a room: what the functions here cite.
 -- Assumes nothing.
 use mathlib.Core.Path.{◌≡◌, refl, ap, ◌∙◌}
-use mathlib.Core.List.{List, [], ◌∷◌, ◌++◌}
+use mathlib.Core.List.{List, [], ◌∷◌}
 use mathlib.Core.Logic.{dite}
 use Prim.Native.Nat.{ℕ, zero, suc, ◌+◌, ◌*◌, ◌/◌, ◌%◌, ◌≤◌, ◌<◌, ◌^◌}
 use native.Mathlib.Numerals.{add-one}
 use native.Mathlib.Decide.{dec_lt}
 use native.Mathlib.Omega.{arith}
-use lib.ListN.{length, take, get_or, set, length-append, length-map, length-take}
-use lib.Seq.{take_all}
+use lib.ListN.{length, take, set, length-append, length-map, length-take}
 use Rattle.writing.specs.Writing.{over}
 use Rattle.text.specs.Appended.{puts, Appended}
 use Rattle.text.specs.Digits.{decimal_of}
-use Rattle.text.proofs.Appending.{length_puts, appended}
+use Rattle.text.proofs.Appending.{appended}
 use Rattle.text.proofs.Spelling.{decimal_one, decimal_more}
 use Rattle.station.specs.declared.station.Station.{Station}
-use Rattle.script.specs.declared.segment.Segment.{Segment}
+use Rattle.script.specs.Segment.{Segment}
 use Rattle.script.specs.Lines.{Printed, letter_of, letters_of, line_of, refused_line}
 
 -- nothing is put yet
@@ -23,31 +22,18 @@ pub begins : (out : List ℕ) (next : ℕ) → next ≤ length out → Appended 
 unfolding puts
 begins out next h = appended refl (omega arith)
 
-pub same_long : {before bytes after : List ℕ} {at next : ℕ} → Appended before at bytes after next
-    → length after ≡ length before
-same_long {before} {bytes} {after} {at} a = ap length a.holds ∙ length_puts before at bytes
-
 -- a letter more
-letters_suc : (k : ℕ) (l : List Station) (d : Station) → k < length l
-    → letters_of (suc k) l ≡ letters_of k l ++ (letter_of (get_or l k d).router.state ∷ [])
+pub letters_step : (n m : ℕ) (rest more : List Station) (s : Station) (letter : ℕ) → rest ≡ s ∷ more → m + 1 ≡ n
+    → letter ≡ letter_of s.router.state → letters_of n rest ≡ letter ∷ letters_of m more
 unfolding letters_of
-letters_suc k [] d h = absurd (omega arith)
-letters_suc zero (s ∷ l) d h = refl
-letters_suc (suc k) (s ∷ l) d h =
-    ap (λ (r : List ℕ). letter_of s.router.state ∷ r) (letters_suc k l d (omega arith))
+letters_step n m rest more s letter e k is = rw (e, ← k, add-one m, is)
 
-pub letters_more : (k : ℕ) (l : List Station) (d : Station) (letter : ℕ) → length l ≡ 16 → k < 16
-    → letter ≡ letter_of (get_or l k d).router.state → letters_of (k + 1) l ≡ letters_of k l ++ (letter ∷ [])
-letters_more k l d letter long h e = rw (add-one k, e) (letters_suc k l d (omega arith))
-
-pub letters_none : (l : List Station) → letters_of 0 l ≡ []
+-- no letter is left
+pub letters_end : (n : ℕ) (rest : List Station) → (0 < n → length rest ≡ 0) → letters_of n rest ≡ []
 unfolding letters_of
-letters_none l = refl
-
-pub letters_end : (k used : ℕ) (l : List Station) → length l ≡ 16 → 16 ≤ k → k ≤ used
-    → letters_of used l ≡ letters_of k l
-unfolding letters_of
-letters_end k used l long h m = rw (take_all k l (omega arith), take_all used l (omega arith))
+letters_end zero rest h = refl
+letters_end (suc n) [] h = refl
+letters_end (suc n) (s ∷ rest) h = absurd (omega (arith, h (omega arith)))
 
 -- bytes that fit stand at the start of the room
 puts_behind : (x : ℕ) (out : List ℕ) (at : ℕ) (bytes : List ℕ) → puts (x ∷ out) (suc at) bytes ≡ x ∷ puts out at bytes
@@ -88,19 +74,17 @@ decimal_length (suc k) n h =
 decimal_short : (n : ℕ) → n < 2 ^ 32 → length (decimal_of n) ≤ 10
 decimal_short n h = decimal_length 9 n (omega arith)
 
-letters_length : (used : ℕ) (l : List Station) → length l ≡ 16 → length (letters_of used l) ≤ 16
+pub letters_length : (used : ℕ) (l : List Station) → length l ≡ 16 → length (letters_of used l) ≤ 16
 unfolding letters_of
 letters_length used l long =
     omega (arith, length-map (take used l) (λ (s : Station). letter_of s.router.state), length-take used l)
 
 -- "a line has at most 32 bytes"
-pub line_short : (number : ℕ) (segment : Segment) → number < 2 ^ 32 → length segment.stations ≡ 16
+pub line_short : (number : ℕ) (segment : Segment) → number < 2 ^ 32
+    → length (letters_of segment.used segment.stations) ≤ 16
     → length (line_of number segment) ≤ 32
 unfolding line_of
-line_short number segment h long =
-    let letters = letters_of segment.used segment.stations in
-    simp length-append
-    (omega (arith, decimal_short number h, letters_length segment.used segment.stations long))
+line_short number segment h few = simp length-append (omega (arith, decimal_short number h))
 
 pub refused_short : (number refusal : ℕ) → number < 2 ^ 32 → refusal < 2 ^ 32 → length (refused_line number refusal) ≤ 32
 unfolding refused_line

@@ -1,16 +1,18 @@
 // The lines that the rehearsal prints.
 #![tactic(auto)]
 
-ghost use Rattle.std.specs.Prelude.{◌≡◌, ◌∷◌, ◌≤◌, length};
+ghost use Rattle.std.specs.Prelude.{◌≡◌, ◌∷◌, ◌≤◌, Some, length};
 ghost use Rattle.text.specs.Appended.{Appended};
+ghost use Rattle.wire.specs.Refusal.{refusal_number};
 ghost use Rattle.script.specs.Lines.{Printed, letter_of, letters_of, line_of, printed_of, refused_line};
-ghost use Rattle.script.specs.Progress.{segment_of};
+ghost use Rattle.script.specs.Progress.{segment_in};
 
-use script::kinds::{Kind, kind_number};
-use script::progress::Reading;
+use script::kinds::Kind;
+use script::progress::Progress;
 use states::record::State;
 use station::station::Station;
 use text::{put, put_byte, put_decimal};
+use wire::refusal::Refusal;
 
 fn letter_of(state: State) -> u8
     ensures { result ≡ letter_of state }
@@ -23,55 +25,47 @@ fn letter_of(state: State) -> u8
 }
 
 // Puts a space and a letter for each station that is used, as much as fits.
-fn put_letters(out: &mut [u8], at: usize, stations: [Station; 16], used: usize) -> usize
-    ensures { Appended out.old at (32 ∷ letters_of used stations) out.new result }
+fn put_letters(out: &mut [u8], at: usize, stations: &[Station; 16], used: usize) -> usize
+    ensures letters { Appended out.old at (32 ∷ letters_of used stations.now) out.new result }
+    ensures few { length (letters_of used stations.now) ≤ 16 }
 {
     let mut next = put_byte(out, at, b' ');
-    let mut k = 0;
-    while k < used && k < 16 {
-        let s = stations[k];
-        let own = s.router;
-        let state = own.state;
-        next = put_byte(out, next, letter_of(state));
-        k += 1;
+    for station in stations.iter().take(used) {
+        next = put_byte(out, next, letter_of(station.router.state));
     }
     next
 }
 
 // Puts the line of a record that was taken.
-fn put_line(out: &mut [u8], number: u32, stations: [Station; 16], reading: Reading) -> usize
+// Kept: each line asks for 32 bytes by a `requires`: as an array of 32 the room would leave out what stands behind it, of
+// which `Printed` speaks.
+fn put_line(out: &mut [u8], number: u32, progress: &Progress) -> usize
     requires { 32 ≤ length out.old }
-    ensures { Printed (line_of number (segment_of stations reading)) out.old result out.new }
+    ensures { Printed (line_of number (segment_in progress.now)) out.old result out.new }
 {
     let mut next = put_decimal(out, 0, number as u64);
-    next = put_letters(out, next, stations, reading.used);
+    next = put_letters(out, next, &progress.stations, progress.reading.used);
     put_byte(out, next, b'\n')
 }
 
 // Puts the line of a record that was taken, where its kind has one.
-pub fn put_printed(
-    out: &mut [u8],
-    kind: Kind,
-    number: u32,
-    stations: [Station; 16],
-    reading: Reading,
-) -> usize
+pub fn put_printed(out: &mut [u8], kind: Kind, number: u32, progress: &Progress) -> usize
     requires { 32 ≤ length out.old }
-    ensures { Printed (printed_of kind number (segment_of stations reading)) out.old result out.new }
+    ensures { Printed (printed_of (Some kind) number (segment_in progress.now)) out.old result out.new }
 {
-    if kind_number(kind) < 3 {
+    if matches!(kind, Kind::NewSegment | Kind::NewStation) {
         return 0;
     }
-    put_line(out, number, stations, reading)
+    put_line(out, number, progress)
 }
 
 // Puts the line of a refusal.
-pub fn put_refused(out: &mut [u8], number: u32, refusal: u32) -> usize
+pub fn put_refused(out: &mut [u8], number: u32, refusal: Refusal) -> usize
     requires { 32 ≤ length out.old }
-    ensures { Printed (refused_line number refusal) out.old result out.new }
+    ensures { Printed (refused_line number (refusal_number refusal)) out.old result out.new }
 {
     let mut next = put_decimal(out, 0, number as u64);
     next = put(out, next, b" refused ");
-    next = put_decimal(out, next, refusal as u64);
+    next = put_decimal(out, next, refusal.number() as u64);
     put_byte(out, next, b'\n')
 }

@@ -1,109 +1,112 @@
 // What refuses a record, by its kind.
 #![tactic(auto)]
 
-ghost use Rattle.std.specs.Prelude.{◌≡◌, ◌≤◌, length};
+ghost use Rattle.std.specs.Prelude.{◌≡◌, [], ◌∷◌, Some, IfOk};
 ghost use Rattle.wire.specs.Check.{first_refusal};
-ghost use Rattle.script.specs.Kinds.{body_length};
+ghost use Rattle.wire.specs.Refusal.{number_answered};
+ghost use Rattle.script.specs.Kinds.{kind_of};
 ghost use Rattle.script.specs.Checks.{segment_checks, station_checks, number_checks, deliver_checks, kind_checks};
 ghost use Rattle.script.specs.Record.{refusal_of};
-ghost use Rattle.script.specs.Progress.{segment_of};
+ghost use Rattle.script.specs.Progress.{segment_in};
 
-use script::kinds::{Kind, record_refusal};
-use script::progress::Reading;
+use script::kinds::Kind;
+use script::progress::Progress;
+use script::record::{Record, record_of};
 use script::segment::sent_by;
 use station::station::Station;
+use wire::refusal::Refusal;
 
-// The first of 14 and 16 that refuses a segment record, or 0.
-fn segment_refusal(body: &[u8]) -> u32
-    requires { 6 ≤ length body.now }
-    ensures { result ≡ first_refusal (segment_checks body.now) }
+// The first of 14 and 16 that refuses a segment record.
+fn segment_refusal(vrid: u8, interval: u8) -> Result<(), Refusal>
+    ensures { number_answered result ≡ first_refusal (segment_checks (vrid ∷ (interval ∷ []))) }
 {
-    let vrid = body[0];
-    let interval = body[1];
     if vrid == 0 {
-        return 14;
+        return Err(Refusal::VridZero);
     }
     if interval == 0 {
-        return 16;
+        return Err(Refusal::IntervalZero);
     }
-    0
+    Ok(())
 }
 
-// The first of 27, 15 and 29 that refuses a station record, or 0.
-fn station_refusal(used: usize, body: &[u8]) -> u32
-    requires { 6 ≤ length body.now }
-    ensures { result ≡ first_refusal (station_checks used body.now) }
+// The first of 27, 15 and 29 that refuses a station record.
+fn station_refusal(used: usize, priority: u8, preempt: u8) -> Result<(), Refusal>
+    ensures { number_answered result ≡ first_refusal (station_checks used (priority ∷ (preempt ∷ []))) }
 {
-    let priority = body[0];
-    let preempt = body[1];
     if used >= 16 {
-        return 27;
+        return Err(Refusal::SeventeenthStation);
     }
     if priority == 0 {
-        return 15;
+        return Err(Refusal::PriorityZero);
     }
     if preempt > 1 {
-        return 29;
+        return Err(Refusal::PreemptAboveOne);
     }
-    0
+    Ok(())
 }
 
-// 26 where a startup or shutdown record names no station, or 0.
-fn number_refusal(used: usize, body: &[u8]) -> u32
-    requires { 1 ≤ length body.now }
-    ensures { result ≡ first_refusal (number_checks used body.now) }
+// 26 where a startup or shutdown record names no station.
+fn number_refusal(used: usize, at: usize) -> Result<(), Refusal>
+    ensures { number_answered result ≡ first_refusal (number_checks used (at ∷ [])) }
 {
-    if body[0] as usize >= used {
-        return 26;
+    if at >= used {
+        return Err(Refusal::UnusedStation);
     }
-    0
+    Ok(())
 }
 
-// The first of 26 and 28 that refuses a deliver record, or 0.
-fn deliver_refusal(stations: [Station; 16], used: usize, body: &[u8]) -> u32
-    requires { 2 ≤ length body.now }
-    ensures { result ≡ first_refusal (deliver_checks used stations body.now) }
+// The first of 26 and 28 that refuses a deliver record.
+fn deliver_refusal(
+    stations: &[Station; 16],
+    used: usize,
+    from: usize,
+    to: usize,
+) -> Result<(), Refusal>
+    ensures { number_answered result ≡ first_refusal (deliver_checks used stations.now (from ∷ (to ∷ []))) }
 {
-    let from = body[0] as usize;
-    let to = body[1] as usize;
     if from >= used {
-        return 26;
+        return Err(Refusal::UnusedStation);
     }
     if to >= used {
-        return 26;
+        return Err(Refusal::UnusedStation);
     }
     if from == to {
-        return 28;
+        return Err(Refusal::NothingToDeliver);
     }
     if sent_by(stations, from) == 0 {
-        return 28;
+        return Err(Refusal::NothingToDeliver);
     }
-    0
+    Ok(())
 }
 
-// The first refusal of a kind's own, or 0.
-fn kind_refusal(stations: [Station; 16], used: usize, kind: Kind, body: &[u8]) -> u32
-    requires { body_length kind ≤ length body.now }
-    ensures { result ≡ first_refusal (kind_checks kind used stations body.now) }
+// The first refusal of a kind's own.
+fn kind_refusal(progress: &Progress, taken: Record) -> Result<(), Refusal>
+    ensures { number_answered result ≡ first_refusal (kind_checks (Some taken.entry.kind)
+        progress.now.reading.used progress.now.stations taken.entry.body.now) }
 {
-    match kind {
-        Kind::Unknown => 0,
-        Kind::NewSegment => segment_refusal(body),
-        Kind::NewStation => station_refusal(used, body),
-        Kind::Startup => number_refusal(used, body),
-        Kind::Shutdown => number_refusal(used, body),
-        Kind::Clock => 0,
-        Kind::Deliver => deliver_refusal(stations, used, body),
+    let used = progress.reading.used;
+    let body = taken.body;
+    match taken.kind {
+        Kind::NewSegment => segment_refusal(body[0], body[1]),
+        Kind::NewStation => station_refusal(used, body[0], body[1]),
+        Kind::Startup | Kind::Shutdown => number_refusal(used, body[0] as usize),
+        Kind::Clock => Ok(()),
+        Kind::Deliver => {
+            deliver_refusal(&progress.stations, used, body[0] as usize, body[1] as usize)
+        }
     }
 }
 
-// The first refusal of a record of any kind, whose body begins these bytes, or 0.
-pub fn refusal_of(stations: [Station; 16], reading: Reading, kind: Kind, body: &[u8]) -> u32
-    ensures { result ≡ refusal_of (segment_of stations reading) kind body.now }
+// The record of this kind whose body begins these bytes, or the first refusal of it.
+pub fn taken_record<'a>(
+    progress: &Progress,
+    byte: u8,
+    body: &'a [u8],
+) -> Result<Record<'a>, Refusal>
+    ensures refused { number_answered result ≡ refusal_of (segment_in progress.now) (kind_of byte) body.now }
+    ensures taken { IfOk result (λ r. (Some r.kind ≡ kind_of byte) × (r.body.now ≡ body.now)) }
 {
-    let refusal = record_refusal(reading.begun, kind, body.len());
-    if refusal != 0 {
-        return refusal;
-    }
-    kind_refusal(stations, reading.used, kind, body)
+    let taken = record_of(progress.reading.begun, byte, body)?;
+    kind_refusal(progress, taken)?;
+    Ok(taken)
 }

@@ -1,27 +1,28 @@
 -- One record of a run, and one after another: what `run` cites.
 -- Assumes nothing.
-use mathlib.Core.Path.{◌≡◌, refl, sym, ap, subst, ◌∙◌}
-use mathlib.Core.Bool.{Bool, true, false, cond, not, ◌||◌}
+use mathlib.Core.Path.{◌≡◌, refl, ap, subst, ◌∙◌}
+use mathlib.Core.Bool.{Bool, true, false, cond, ◌||◌}
 use mathlib.Core.List.{List, [], ◌++◌, append_assoc, append-nil}
 use Prim.Native.Nat.{ℕ, ◌+◌, ◌-◌, ◌≤◌, ◌<◌}
 use native.Mathlib.Nat.{sub-zero}
 use native.Mathlib.Omega.{arith}
 use lib.Dec.{eqb, ltb, leb}
 use lib.ListN.{length, drop, get_or, length-append, length-drop, length-take}
-use borrow.Author.Tests.{lt-ltb, le-ltb, leb-false, not-false}
+use borrow.Author.Tests.{lt-ltb, le-ltb, leb-false}
 use borrow.Rule.Slice.PartMut.{mid_of, put_mid}
 use Rattle.writing.specs.Writing.{over}
+use Rattle.std.specs.Prelude.{Option}
 use Rattle.wire.proofs.Tested.{second_fails}
 use Rattle.output.proofs.Parts.{part_behind}
 use Rattle.script.specs.declared.kinds.Kind.{Kind}
 use Rattle.script.specs.declared.progress.Progress.{Progress}
-use Rattle.rehearsal.specs.declared.Ran.{Ran}
 use Rattle.script.specs.Kinds.{kind_of}
 use Rattle.script.specs.Record.{refusal_of}
 use Rattle.script.specs.Lines.{Printed, refused_line}
-use Rattle.script.specs.Progress.{exhausted}
-use Rattle.rehearsal.specs.Run.{ends, record_step, step_of, left_of, stops_at, Runs, stops, goes, RunLeaves}
-use Rattle.printing.proofs.Printed.{prints_nothing}
+use Rattle.script.specs.Progress.{exhausted, segment_in}
+use Rattle.turns.specs.declared.Turn.{Turn}
+use Rattle.turns.specs.Turn.{Step, ends, record_step, step_of, progress_left, line_left, Turns}
+use Rattle.rehearsal.specs.Run.{left_of, stops_at, Runs, stops, goes, RunLeaves}
 
 pub printed_as : {text other before after : List ℕ} {written : ℕ} → text ≡ other → Printed text before written after
     → Printed other before written after
@@ -29,58 +30,53 @@ printed_as {text} {other} {before} {after} {written} e printed =
     subst (λ (l : List ℕ). Printed l before written after) e printed
 
 -- what is left to do falls
-taken_falls : (t : Bool) (script : List ℕ) (p : Progress) (kind : Kind) (body : List ℕ) → p.done ≡ false
-    → p.at < length script → eqb (refusal_of p.segment kind body) 0 ≡ t
+taken_falls : (t : Bool) (script : List ℕ) (p : Progress) (kind : Option Kind) (body : List ℕ) → p.reading.done ≡ false
+    → p.reading.at < length script → eqb (refusal_of (segment_in p) kind body) 0 ≡ t
     → left_of script (record_step p kind body).progress < left_of script p
 taken_falls true script p kind body d h e = rw (e, d) (omega arith)
 taken_falls false script p kind body d h e = rw (e, d) (omega arith)
 
-misplaced_falls : (t : Bool) (script : List ℕ) (p : Progress) → p.done ≡ false → p.at < length script
+misplaced_falls : (t : Bool) (script : List ℕ) (p : Progress) → p.reading.done ≡ false → p.reading.at < length script
     → left_of script
-    (cond t (ends p []) (record_step p (kind_of (get_or script p.at 0)) (drop (p.at + 1) script))).progress
+    (cond t (ends p []) (record_step p (kind_of (get_or script p.reading.at 0)) (drop (p.reading.at + 1) script))).progress
     < left_of script p
 misplaced_falls true script p d h = rw d (omega arith)
 misplaced_falls false script p d h = taken_falls _ script p _ _ d h refl
 
-exhausted_falls : (t : Bool) (script : List ℕ) (p : Progress) → p.done ≡ false → leb (length script) p.at ≡ t
+exhausted_falls : (t : Bool) (script : List ℕ) (p : Progress) → p.reading.done ≡ false → leb (length script) p.reading.at ≡ t
     → left_of script
-    (cond (t || ltb (p.at + 1) p.number) (ends p [])
-    (record_step p (kind_of (get_or script p.at 0)) (drop (p.at + 1) script))).progress < left_of script p
+    (cond (t || ltb (p.reading.at + 1) p.reading.number) (ends p [])
+    (record_step p (kind_of (get_or script p.reading.at 0)) (drop (p.reading.at + 1) script))).progress < left_of script p
 exhausted_falls true script p d e = rw d (omega arith)
 exhausted_falls false script p d e =
-    misplaced_falls (ltb (p.at + 1) p.number) script p d (leb-false (length script) p.at e)
+    misplaced_falls (ltb (p.reading.at + 1) p.reading.number) script p d (leb-false (length script) p.reading.at e)
 
-long_falls : (t : Bool) (script : List ℕ) (p : Progress) → p.done ≡ false
+long_falls : (t : Bool) (script : List ℕ) (p : Progress) → p.reading.done ≡ false
     → left_of script
     (cond t (ends p (refused_line 0 30))
     (cond (exhausted script p) (ends p [])
-    (record_step p (kind_of (get_or script p.at 0)) (drop (p.at + 1) script)))).progress < left_of script p
+    (record_step p (kind_of (get_or script p.reading.at 0)) (drop (p.reading.at + 1) script)))).progress < left_of script p
 long_falls true script p d = rw d (omega arith)
-long_falls false script p d = exhausted_falls (leb (length script) p.at) script p d refl
+long_falls false script p d = exhausted_falls (leb (length script) p.reading.at) script p d refl
 
-pub left_falls : (script : List ℕ) (p : Progress) → p.done ≡ false
+pub left_falls : (script : List ℕ) (p : Progress) → p.reading.done ≡ false
     → left_of script (step_of script p).progress < left_of script p
 unfolding step_of
 left_falls script p d = long_falls (ltb 65536 (length script)) script p d
 
-undone : (t : Bool) → not t ≡ true → t ≡ false
-undone true e = sym e
-undone false e = refl
-
-pub left_less : (script : List ℕ) (p next : Progress) → not p.done ≡ true → next ≡ (step_of script p).progress
+pub left_less : (script : List ℕ) (p next : Progress) → p.reading.done ≡ false → next ≡ (step_of script p).progress
     → left_of script next < left_of script p
-left_less script p next d e = rw e (left_falls script p (undone p.done d))
+left_less script p next d e = rw e (left_falls script p d)
 
 -- whether a run stops, by the code's tests
-
-pub goes_on : (p : Progress) (room : ℕ) → not p.done ≡ true → 32 ≤ room → stops_at p room ≡ false
-goes_on p room d t = rw (undone p.done d, le-ltb room 32 t)
+pub goes_on : (p : Progress) (room : ℕ) → p.reading.done ≡ false → 32 ≤ room → stops_at p room ≡ false
+goes_on p room d t = rw (d, le-ltb room 32 t)
 
 pub stops_short : (p : Progress) (room : ℕ) → room < 32 → stops_at p room ≡ true
-stops_short p room t = second_fails p.done (ltb room 32) (lt-ltb room 32 t)
+stops_short p room t = second_fails p.reading.done (ltb room 32) (lt-ltb room 32 t)
 
-pub stops_done : (p : Progress) (room : ℕ) → not p.done ≡ false → stops_at p room ≡ true
-stops_done p room d = rw (not-false p.done d)
+pub stops_done : (p : Progress) (room : ℕ) → p.reading.done ≡ true → stops_at p room ≡ true
+stops_done p room d = rw d
 
 -- a run so far: its text stands at the start of the room, and what follows from here follows from its start
 pub record SoFar (script : List ℕ) (p : Progress) (before : List ℕ) (here : Progress) (written : ℕ) (after : List ℕ)
@@ -106,6 +102,10 @@ mid_whole at room h = omega (arith, length-take (length room - at) (drop at room
 
 mid_long : (at : ℕ) (room : List ℕ) → length (mid_of at (length room - at) room) ≤ length room - at
 mid_long at room = omega (arith, length-take (length room - at) (drop at room))
+
+-- nothing is printed yet
+prints_nothing : (room : List ℕ) → Printed [] room 0 room
+prints_nothing room = record { written_is = refl; room_is = refl; fits = omega arith }
 
 pub begun : (script : List ℕ) (p : Progress) (room : List ℕ) → SoFar script p room p 0 room
 begun script p room =
@@ -170,8 +170,11 @@ module _ {script : List ℕ} {p : Progress} {before : List ℕ} {here : Progress
         printed = so_far.printed;
       }
 
--- and it is one from an equal progress
-pub leaves_from : {script before after : List ℕ} {p q : Progress} {ran : Ran} → p ≡ q
-    → RunLeaves script p before ran after → RunLeaves script q before ran after
-leaves_from {script} {before} {after} {p} {q} {ran} e leaves =
-    subst (λ (x : Progress). RunLeaves script x before ran after) e leaves
+-- a turn of the run, and the progress after it
+module _ {p : Progress} {step : Step} {turned : Turn} {after : Progress} (turns : Turns p step turned)
+    (left : after ≡ progress_left turned p) where
+  pub turn_progress : after ≡ step.progress
+  turn_progress = left ∙ turns.progress_is
+
+  pub turn_line : line_left turned.found turned.number (segment_in after) ≡ step.line
+  turn_line = rw turn_progress turns.line_is

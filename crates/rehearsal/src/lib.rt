@@ -5,10 +5,9 @@ ghost use Rattle.std.specs.Prelude.{◌≡◌};
 ghost use Rattle.script.specs.Progress.{started};
 ghost use Rattle.rehearsal.specs.Run.{RunLeaves};
 
-use script::progress::{Progress, progress_of, reading_of};
-use script::segment::no_segment;
-use taking::stations_after;
-use turns::{put_turn, turn_of};
+use script::progress::{Progress, Reading};
+use script::segment::no_stations;
+use turns::{advance, put_turn, turn_of};
 
 #[derive(Drop)]
 pub struct Ran {
@@ -22,10 +21,17 @@ pub fn start() -> Progress
     ensures { result ≡ started }
 {
     Progress {
-        segment: no_segment(),
-        at: 0,
-        number: 1,
-        done: false,
+        stations: no_stations(),
+        reading: Reading {
+            used: 0,
+            vrid: 0,
+            interval: 0,
+            address: [0; 4],
+            begun: false,
+            at: 0,
+            number: 1,
+            done: false,
+        },
     }
 }
 
@@ -33,22 +39,15 @@ pub fn start() -> Progress
 pub fn run(script: &[u8], progress: Progress, out: &mut [u8]) -> Ran
     ensures { RunLeaves script.now progress out.old result out.new }
 {
-    let segment = progress.segment;
-    let mut stations = segment.stations;
-    let mut reading = reading_of(progress);
+    let mut now = progress;
     let mut written = 0;
-    while !reading.done && out.len() - written >= 32 {
-        let turn = turn_of(script, stations, reading);
-        let kind = turn.kind;
-        let from = turn.from;
-        let after = stations_after(stations, reading, kind, &script[from..]);
-        stations = after;
-        written += put_turn(&mut out[written..], turn, stations);
-        let next = turn.reading;
-        reading = next;
+    while !now.reading.done && out.len() - written >= 32 {
+        let turn = turn_of(script, &now);
+        advance(&mut now, turn);
+        written += put_turn(&mut out[written..], turn, &now);
     }
     Ran {
-        progress: progress_of(stations, reading),
-        written: written,
+        progress: now,
+        written,
     }
 }

@@ -1,2 +1,2 @@
+mod Named
 mod Stored
-pub mod OfKind

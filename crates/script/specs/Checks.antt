@@ -1,22 +1,14 @@
 -- What refuses a record, in order (01, 'The rehearsal program').
-use Rattle.std.specs.Prelude.{ℕ, List, [], ◌∷◌, Bool, cond, not, eqb, ltb, get_or}
+use Rattle.std.specs.Prelude.{ℕ, List, [], ◌∷◌, Bool, cond, not, eqb, ltb, get_or, Option, Some, None}
 use Rattle.wire.specs.Check.{Check}
 use Rattle.station.specs.declared.station.Station.{Station}
 use Rattle.stations.specs.List.{nowhere}
 use Rattle.script.specs.declared.kinds.Kind.{Kind}
-use Rattle.script.specs.declared.kinds.Kind.TheVariants.{
-  Unknown,
-  NewSegment,
-  NewStation,
-  Startup,
-  Shutdown,
-  Clock,
-  Deliver,
-}
+use Rattle.script.specs.declared.kinds.Kind.TheVariants.{NewSegment, NewStation, Startup, Shutdown, Clock, Deliver}
 use Rattle.script.specs.Kinds.{body_length, kind_number}
 
 -- "23 unknown kind; 24 body cut off; 25 first record not a segment, or a second segment"
-abbrev pub record_checks : Bool → Kind → ℕ → List Check
+abbrev pub record_checks : Bool → Option Kind → ℕ → List Check
 record_checks begun kind left =
     (23, eqb (kind_number kind) 0)
     ∷ ((24, ltb left (body_length kind))
@@ -44,11 +36,11 @@ deliver_checks used stations body =
     ∷ ((28, eqb (get_or stations (get_or body 0 0) nowhere).sent 0) ∷ [])))
 
 -- after those of every record, where so many stations are used
-abbrev pub kind_checks : Kind → ℕ → List Station → List ℕ → List Check
-kind_checks Unknown used stations body = []
-kind_checks NewSegment used stations body = segment_checks body
-kind_checks NewStation used stations body = station_checks used body
-kind_checks Startup used stations body = number_checks used body
-kind_checks Shutdown used stations body = number_checks used body
-kind_checks Clock used stations body = []
-kind_checks Deliver used stations body = deliver_checks used stations body
+abbrev pub kind_checks : Option Kind → ℕ → List Station → List ℕ → List Check
+kind_checks None used stations body = []
+kind_checks (Some NewSegment) used stations body = segment_checks body
+kind_checks (Some NewStation) used stations body = station_checks used body
+kind_checks (Some Startup) used stations body = number_checks used body
+kind_checks (Some Shutdown) used stations body = number_checks used body
+kind_checks (Some Clock) used stations body = []
+kind_checks (Some Deliver) used stations body = deliver_checks used stations body

@@ -1,4 +1,5 @@
 pub mod Kinds
+pub mod Segment
 pub mod Checks
 pub mod Record
 pub mod Lines

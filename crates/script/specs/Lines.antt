@@ -1,10 +1,10 @@
 -- The lines that the rehearsal prints, in ASCII (01, 'The rehearsal program').
-use Rattle.std.specs.Prelude.{ℕ, ◌≤◌, ◌≡◌, List, [], ◌∷◌, ◌++◌, map, cond, ltb, length, take}
+use Rattle.std.specs.Prelude.{ℕ, ◌≤◌, ◌≡◌, Option, List, [], ◌∷◌, ◌++◌, map, cond, ltb, length, take}
 use Rattle.writing.specs.Writing.{over}
 pub use Rattle.states.specs.Letter.{letter_of}
 use Rattle.text.specs.Digits.{decimal_of}
 use Rattle.station.specs.declared.station.Station.{Station}
-use Rattle.script.specs.declared.segment.Segment.{Segment}
+use Rattle.script.specs.Segment.{Segment}
 use Rattle.script.specs.declared.kinds.Kind.{Kind}
 use Rattle.script.specs.Kinds.{kind_number}
 
@@ -31,5 +31,5 @@ unfoldable pub refused_line : ℕ → ℕ → List ℕ
 refused_line number refusal = decimal_of number ++ refused_word ++ decimal_of refusal ++ (10 ∷ [])
 
 -- "After kinds 3 to 6 it prints"
-abbrev pub printed_of : Kind → ℕ → Segment → List ℕ
+abbrev pub printed_of : Option Kind → ℕ → Segment → List ℕ
 printed_of kind number segment = cond (ltb (kind_number kind) 3) [] (line_of number segment)

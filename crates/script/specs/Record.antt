@@ -1,22 +1,14 @@
 -- What a record does to the segment (01, 'The rehearsal program').
-use Rattle.std.specs.Prelude.{ℕ, ◌+◌, ◌*◌, List, [], ◌∷◌, ◌++◌, true, eqb, length, get_or, set}
+use Rattle.std.specs.Prelude.{ℕ, ◌+◌, ◌*◌, List, [], ◌∷◌, ◌++◌, true, eqb, length, get_or, set, Option, Some, None}
 use Rattle.sums.specs.Number.{number_of}
 use Rattle.wire.specs.Check.{first_refusal}
 use Rattle.station.specs.declared.station.Station.{Station}
 use Rattle.station.specs.Making.{made_of}
 use Rattle.passing.specs.Passing.{fresh_room}
 use Rattle.stations.specs.List.{started_at, shut_at, delivered_at, all_passed}
-use Rattle.script.specs.declared.segment.Segment.{Segment}
+use Rattle.script.specs.Segment.{Segment}
 use Rattle.script.specs.declared.kinds.Kind.{Kind}
-use Rattle.script.specs.declared.kinds.Kind.TheVariants.{
-  Unknown,
-  NewSegment,
-  NewStation,
-  Startup,
-  Shutdown,
-  Clock,
-  Deliver,
-}
+use Rattle.script.specs.declared.kinds.Kind.TheVariants.{NewSegment, NewStation, Startup, Shutdown, Clock, Deliver}
 use Rattle.script.specs.Checks.{record_checks, kind_checks}
 
 -- "1 segment (VRID, A, one virtual address: 6 bytes)"
@@ -63,21 +55,21 @@ with_station segment body =
 
 -- "3 startup (station); 4 shutdown (station); 5 clock (2 bytes, high first: all stations in number order ..); 6 deliver
 -- (from, to: the latest advertisement frame of from .. is handed to to)"
-abbrev pub after_record : Kind → Segment → List ℕ → Segment
-after_record Unknown segment body = segment
-after_record NewSegment segment body = with_segment segment body
-after_record NewStation segment body = with_station segment body
-after_record Startup segment body =
+abbrev pub after_record : Option Kind → Segment → List ℕ → Segment
+after_record None segment body = segment
+after_record (Some NewSegment) segment body = with_segment segment body
+after_record (Some NewStation) segment body = with_station segment body
+after_record (Some Startup) segment body =
     with_stations segment (started_at segment.stations (get_or body 0 0) fresh_room).stations
-after_record Shutdown segment body =
+after_record (Some Shutdown) segment body =
     with_stations segment (shut_at segment.stations (get_or body 0 0) fresh_room).stations
-after_record Clock segment body =
+after_record (Some Clock) segment body =
     with_stations segment (all_passed (256 * get_or body 0 0 + get_or body 1 0) segment.used segment.stations)
-after_record Deliver segment body =
+after_record (Some Deliver) segment body =
     with_stations segment (delivered_at segment.stations (get_or body 0 0) (get_or body 1 0) fresh_room).stations
 
 -- the first check that refuses a record of any kind, whose body begins any bytes, or 0
-unfoldable pub refusal_of : Segment → Kind → List ℕ → ℕ
+unfoldable pub refusal_of : Segment → Option Kind → List ℕ → ℕ
 refusal_of segment kind body =
     first_refusal
     (record_checks segment.begun kind (length body) ++ kind_checks kind segment.used segment.stations body)

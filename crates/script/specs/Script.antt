@@ -1,22 +1,9 @@
 -- What a whole script prints (01, 'The rehearsal program').
-use Rattle.std.specs.Prelude.{ℕ, zero, suc, ◌+◌, List, [], ◌∷◌, ◌++◌, false, cond, eqb, ltb, length, replicate}
-use Rattle.stations.specs.List.{nowhere}
-use Rattle.script.specs.declared.segment.Segment.{Segment}
+use Rattle.std.specs.Prelude.{ℕ, zero, suc, ◌+◌, List, [], ◌∷◌, ◌++◌, cond, eqb, ltb, length}
+use Rattle.script.specs.Segment.{Segment, empty_segment}
 use Rattle.script.specs.Kinds.{kind_of, body_length}
 use Rattle.script.specs.Record.{after_record, refusal_of}
 use Rattle.script.specs.Lines.{refused_line, printed_of}
-
--- no segment was read, and no station is there
-unfoldable pub empty_segment : Segment
-empty_segment =
-    record {
-      stations = replicate 16 nowhere;
-      used = 0;
-      vrid = 0;
-      interval = 0;
-      address = replicate 4 0;
-      begun = false;
-    }
 
 -- the lines from a record of this number on, where so many bytes are still the body of the one before: those of each
 -- record, to the end or to the first that is refused ("and ends")

@@ -22,7 +22,7 @@ use Rattle.passing.specs.Passing.{fresh_room, leftover_of, passed_in, passed}
 use Rattle.stations.specs.List.{stepped_at, all_passed}
 use Rattle.script.specs.Kinds.{kind_of}
 use Rattle.script.specs.Record.{refusal_of}
-use Rattle.script.specs.Script.{empty_segment}
+use Rattle.script.specs.Segment.{empty_segment}
 use Rattle.scripted.specs.Scripted.{NoneRefused, Taken, end_of, station_at, ShowsM, Outranks, delivery_bytes}
 use Rattle.scripted.specs.Scripted.{Has, Exchange}
 use Rattle.scripted.specs.Examples.{election, exchanged, ElectionEnds}

@@ -26,8 +26,9 @@ use Rattle.stations.specs.List.{nowhere, delivered_at}
 use Rattle.stepped.specs.Stepped.{hears, table_of, Lived}
 use Rattle.stepped.proofs.Onward.{packet_onward}
 use Rattle.stepped.proofs.Theorems.{lived_well_formed, lived_configured, lived_router, last_sent}
-use Rattle.script.specs.declared.segment.Segment.{Segment}
+use Rattle.script.specs.Segment.{Segment}
 use Rattle.script.specs.declared.kinds.Kind.TheVariants.{Deliver}
+use Rattle.std.specs.Prelude.{Some}
 use Rattle.script.specs.Kinds.{kind_of}
 use Rattle.script.specs.Record.{with_stations, refusal_of}
 use Rattle.scripted.specs.Scripted.{segment_after, NoneRefused, station_at, Delivery, delivery_bytes, FromMasters}
@@ -148,7 +149,7 @@ module _ (segment : Segment) (running : Running segment) (some : segment.begun �
     sent : ¬ ((get_or l from nowhere).sent ≡ 0) × (packet_of (get_or l from nowhere) ≡ advertised from)
     sent = (stands.each from sender).latest master
 
-    pub next_refused : (rest : List ℕ) → refusal_of (with_stations segment l) Deliver (from ∷ (to ∷ rest)) ≡ 0
+    pub next_refused : (rest : List ℕ) → refusal_of (with_stations segment l) (Some Deliver) (from ∷ (to ∷ rest)) ≡ 0
     unfolding refusal_of
     next_refused rest =
         rw (

@@ -10,17 +10,10 @@ use borrow.Author.Tests.{le-ltb, ltb-false}
 use Rattle.wire.specs.Check.{Passes}
 use Rattle.wire.proofs.Checks.{Numbered, passed, all_pass}
 use Rattle.station.specs.declared.station.Station.{Station}
-use Rattle.script.specs.declared.segment.Segment.{Segment}
+use Rattle.script.specs.Segment.{Segment}
 use Rattle.script.specs.declared.kinds.Kind.{Kind}
-use Rattle.script.specs.declared.kinds.Kind.TheVariants.{
-  Unknown,
-  NewSegment,
-  NewStation,
-  Startup,
-  Shutdown,
-  Clock,
-  Deliver,
-}
+use Rattle.script.specs.declared.kinds.Kind.TheVariants.{NewSegment, NewStation, Startup, Shutdown, Clock, Deliver}
+use Rattle.std.specs.Prelude.{Some, None, Option}
 use Rattle.script.specs.Kinds.{kind_of, body_length}
 use Rattle.script.specs.Checks.{record_checks, kind_checks}
 use Rattle.script.specs.Record.{after_record, refusal_of}
@@ -28,18 +21,18 @@ use Rattle.script.specs.Lines.{printed_of}
 use Rattle.script.specs.Script.{lines_from}
 use Rattle.scripted.specs.Scripted.{segment_after, NoneRefused, records_in}
 
-kinds_numbered : (kind : Kind) (used : ℕ) (stations : List Station) (body : List ℕ)
+kinds_numbered : (kind : Option Kind) (used : ℕ) (stations : List Station) (body : List ℕ)
     → Numbered (kind_checks kind used stations body)
-kinds_numbered Unknown used stations body = tt
-kinds_numbered NewSegment used stations body = omega arith
-kinds_numbered NewStation used stations body = omega arith
-kinds_numbered Startup used stations body = omega arith
-kinds_numbered Shutdown used stations body = omega arith
-kinds_numbered Clock used stations body = tt
-kinds_numbered Deliver used stations body = omega arith
+kinds_numbered None used stations body = tt
+kinds_numbered (Some NewSegment) used stations body = omega arith
+kinds_numbered (Some NewStation) used stations body = omega arith
+kinds_numbered (Some Startup) used stations body = omega arith
+kinds_numbered (Some Shutdown) used stations body = omega arith
+kinds_numbered (Some Clock) used stations body = tt
+kinds_numbered (Some Deliver) used stations body = omega arith
 
 -- every check of a record that is not refused
-pub checked : (segment : Segment) (kind : Kind) (body : List ℕ) → refusal_of segment kind body ≡ 0
+pub checked : (segment : Segment) (kind : Option Kind) (body : List ℕ) → refusal_of segment kind body ≡ 0
     → Passes
     (record_checks segment.begun kind (length body) ++ kind_checks kind segment.used segment.stations body)
 unfolding refusal_of
@@ -50,7 +43,7 @@ checked segment kind body taken =
     (omega arith, (omega arith, (omega arith, kinds))) taken
 
 -- "a body whose length the kind fixes"
-whole : (segment : Segment) (kind : Kind) (body : List ℕ) → refusal_of segment kind body ≡ 0
+whole : (segment : Segment) (kind : Option Kind) (body : List ℕ) → refusal_of segment kind body ≡ 0
     → body_length kind ≤ length body
 whole segment kind body taken = ltb-false (length body) (body_length kind) (checked segment kind body taken).1.0
 
@@ -59,10 +52,10 @@ module _ (body more : List ℕ) where
   first : (i : ℕ) → i < length body → get_or (body ++ more) i 0 ≡ get_or body i 0
   first i h = get_or-append body more 0 i h
 
-  after_same : (kind : Kind) (segment : Segment) → body_length kind ≤ length body
+  after_same : (kind : Option Kind) (segment : Segment) → body_length kind ≤ length body
       → after_record kind segment (body ++ more) ≡ after_record kind segment body
-  after_same Unknown segment h = refl
-  after_same NewSegment segment h =
+  after_same None segment h = refl
+  after_same (Some NewSegment) segment h =
       rw (
         first 0 (omega arith),
         first 1 (omega arith),
@@ -71,7 +64,7 @@ module _ (body more : List ℕ) where
         first 4 (omega arith),
         first 5 (omega arith),
       )
-  after_same NewStation segment h =
+  after_same (Some NewStation) segment h =
       cc (
         first 0 (omega arith),
         first 1 (omega arith),
@@ -80,22 +73,22 @@ module _ (body more : List ℕ) where
         first 4 (omega arith),
         first 5 (omega arith),
       )
-  after_same Startup segment h = rw (first 0 (omega arith))
-  after_same Shutdown segment h = rw (first 0 (omega arith))
-  after_same Clock segment h = rw (first 0 (omega arith), first 1 (omega arith))
-  after_same Deliver segment h = rw (first 0 (omega arith), first 1 (omega arith))
+  after_same (Some Startup) segment h = rw (first 0 (omega arith))
+  after_same (Some Shutdown) segment h = rw (first 0 (omega arith))
+  after_same (Some Clock) segment h = rw (first 0 (omega arith), first 1 (omega arith))
+  after_same (Some Deliver) segment h = rw (first 0 (omega arith), first 1 (omega arith))
 
-  checks_same : (kind : Kind) (used : ℕ) (stations : List Station) → body_length kind ≤ length body
+  checks_same : (kind : Option Kind) (used : ℕ) (stations : List Station) → body_length kind ≤ length body
       → kind_checks kind used stations (body ++ more) ≡ kind_checks kind used stations body
-  checks_same Unknown used stations h = refl
-  checks_same NewSegment used stations h = rw (first 0 (omega arith), first 1 (omega arith))
-  checks_same NewStation used stations h = rw (first 0 (omega arith), first 1 (omega arith))
-  checks_same Startup used stations h = rw (first 0 (omega arith))
-  checks_same Shutdown used stations h = rw (first 0 (omega arith))
-  checks_same Clock used stations h = refl
-  checks_same Deliver used stations h = rw (first 0 (omega arith), first 1 (omega arith))
+  checks_same None used stations h = refl
+  checks_same (Some NewSegment) used stations h = rw (first 0 (omega arith), first 1 (omega arith))
+  checks_same (Some NewStation) used stations h = rw (first 0 (omega arith), first 1 (omega arith))
+  checks_same (Some Startup) used stations h = rw (first 0 (omega arith))
+  checks_same (Some Shutdown) used stations h = rw (first 0 (omega arith))
+  checks_same (Some Clock) used stations h = refl
+  checks_same (Some Deliver) used stations h = rw (first 0 (omega arith), first 1 (omega arith))
 
-  refusal_same : (segment : Segment) (kind : Kind) → refusal_of segment kind body ≡ 0
+  refusal_same : (segment : Segment) (kind : Option Kind) → refusal_of segment kind body ≡ 0
       → refusal_of segment kind (body ++ more) ≡ 0
   unfolding refusal_of
   refusal_same segment kind taken =

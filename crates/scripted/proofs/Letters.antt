@@ -10,7 +10,7 @@ use borrow.Author.Tests.{ltb-true, ltb-false}
 use Rattle.states.specs.declared.record.State.{State}
 use Rattle.states.specs.declared.record.State.TheVariants.{Initialize, Backup, Master}
 use Rattle.station.specs.declared.station.Station.{Station}
-use Rattle.script.specs.declared.segment.Segment.{Segment}
+use Rattle.script.specs.Segment.{Segment}
 use Rattle.script.specs.Lines.{letter_of, letters_of}
 use Rattle.scripted.specs.Scripted.{station_at, ShowsM}
 use Rattle.scripted.proofs.Listed.{first_mapped, past_mapped}

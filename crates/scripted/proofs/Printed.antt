@@ -9,11 +9,12 @@ use native.Mathlib.Omega.{arith}
 use lib.Dec.{eqb, ltb}
 use lib.ListN.{length}
 use borrow.Author.Tests.{le-ltb, ltb-false, eqb-true, eqb-false}
-use Rattle.script.specs.declared.segment.Segment.{Segment}
+use Rattle.script.specs.Segment.{Segment}
 use Rattle.script.specs.Kinds.{kind_of, body_length}
 use Rattle.script.specs.Record.{after_record, refusal_of}
 use Rattle.script.specs.Lines.{printed_of, refused_line}
-use Rattle.script.specs.Script.{empty_segment, lines_from, rehearsal_of}
+use Rattle.script.specs.Segment.{empty_segment}
+use Rattle.script.specs.Script.{lines_from, rehearsal_of}
 use Rattle.scripted.specs.Scripted.{segment_after, NoneRefused, records_in, Taken, end_of}
 use Rattle.scripted.specs.Theorems.{EndsRefused, TakenOrRefused, PrintsOn}
 use Rattle.scripted.proofs.Joined.{joined_after, joined_passed, joined_lines, ends_after, ends_lines}

@@ -21,20 +21,13 @@ use Rattle.steps.specs.Steps.{happened_to}
 use Rattle.passing.specs.Passing.{fresh_room}
 use Rattle.stations.specs.List.{nowhere, all_passed}
 use Rattle.stepped.specs.Stepped.{Step, starts, shuts, passes, hears, stepped, stepped_all, Lived}
-use Rattle.script.specs.declared.segment.Segment.{Segment}
+use Rattle.script.specs.Segment.{Segment}
 use Rattle.script.specs.declared.kinds.Kind.{Kind}
-use Rattle.script.specs.declared.kinds.Kind.TheVariants.{
-  Unknown,
-  NewSegment,
-  NewStation,
-  Startup,
-  Shutdown,
-  Clock,
-  Deliver,
-}
+use Rattle.script.specs.declared.kinds.Kind.TheVariants.{NewSegment, NewStation, Startup, Shutdown, Clock, Deliver}
+use Rattle.std.specs.Prelude.{Some, None, Option}
 use Rattle.script.specs.Kinds.{kind_of, body_length}
 use Rattle.script.specs.Record.{with_segment, with_stations, with_station, station_in, after_record, refusal_of}
-use Rattle.script.specs.Script.{empty_segment}
+use Rattle.script.specs.Segment.{empty_segment}
 use Rattle.scripted.specs.Scripted.{segment_after, NoneRefused, station_at}
 use Rattle.scripted.proofs.Joined.{checked}
 use Rattle.scripted.proofs.Listed.{passed_length, passed_each, stepped_is, delivered_is}
@@ -159,9 +152,9 @@ module _ (vrid priority interval : ℕ) (addresses : List ℕ) (named : Named vr
 
 -- one record
 module _ (segment : Segment) (running : Running segment) (body : List ℕ) (bytes : Bytes body) where
-  begun_by : refusal_of segment NewSegment body ≡ 0 → Running (with_segment segment body)
+  begun_by : refusal_of segment (Some NewSegment) body ≡ 0 → Running (with_segment segment body)
   begun_by taken =
-      let checks = checked segment NewSegment body taken in
+      let checks = checked segment (Some NewSegment) body taken in
       let empty = running.none (begins segment.begun checks.1.1.0) in
       record {
         few = running.few;
@@ -180,9 +173,9 @@ module _ (segment : Segment) (running : Running segment) (body : List ℕ) (byte
         each = λ i h. absurd (omega (arith, empty));
       }
 
-  added_by : refusal_of segment NewStation body ≡ 0 → Running (with_station segment body)
+  added_by : refusal_of segment (Some NewStation) body ≡ 0 → Running (with_station segment body)
   added_by taken =
-      let checks = checked segment NewStation body taken in
+      let checks = checked segment (Some NewStation) body taken in
       let begun = goes_on segment.begun checks.1.1.0 in
       let named = running.named begun in
       let free : segment.used < 16 = ltb-true segment.used 16 (not-false _ checks.1.1.1.0) in
@@ -201,34 +194,34 @@ module _ (segment : Segment) (running : Running segment) (body : List ℕ) (byte
             (λ n. running.each i (omega arith));
       }
 
-  pub runs_on : (kind : Kind) → refusal_of segment kind body ≡ 0 → Running (after_record kind segment body)
-  runs_on Unknown taken = running
-  runs_on NewSegment taken = begun_by taken
-  runs_on NewStation taken = added_by taken
-  runs_on Startup taken =
+  pub runs_on : (kind : Option Kind) → refusal_of segment kind body ≡ 0 → Running (after_record kind segment body)
+  runs_on None taken = running
+  runs_on (Some NewSegment) taken = begun_by taken
+  runs_on (Some NewStation) taken = added_by taken
+  runs_on (Some Startup) taken =
       let at = get_or body 0 0 in
-      let checks = checked segment Startup body taken in
+      let checks = checked segment (Some Startup) body taken in
       let used : at < segment.used = ltb-true at segment.used (not-false _ checks.1.1.1.0) in
       let within : at < length segment.stations = omega (arith, running.few, running.long) in
       rw (stepped_is (λ s room. happened_to s StartupEvent room) segment.stations at fresh_room within)
       (one_steps segment running at used (starts fresh_room))
-  runs_on Shutdown taken =
+  runs_on (Some Shutdown) taken =
       let at = get_or body 0 0 in
-      let checks = checked segment Shutdown body taken in
+      let checks = checked segment (Some Shutdown) body taken in
       let used : at < segment.used = ltb-true at segment.used (not-false _ checks.1.1.1.0) in
       let within : at < length segment.stations = omega (arith, running.few, running.long) in
       rw (stepped_is (λ s room. happened_to s ShutdownEvent room) segment.stations at fresh_room within)
       (one_steps segment running at used (shuts fresh_room))
-  runs_on Clock taken =
+  runs_on (Some Clock) taken =
       let ticks = 256 * get_or body 0 0 + get_or body 1 0 in
       let few : segment.used ≤ length segment.stations = omega (arith, running.few, running.long) in
       moved segment running (all_passed ticks segment.used segment.stations)
       (passed_length ticks segment.used segment.stations few ∙ running.long)
       (λ i h. rw (passed_each ticks segment.used segment.stations few i h) (steps_on (passes ticks) (running.each i h)))
-  runs_on Deliver taken =
+  runs_on (Some Deliver) taken =
       let from = get_or body 0 0 in
       let to = get_or body 1 0 in
-      let checks = checked segment Deliver body taken in
+      let checks = checked segment (Some Deliver) body taken in
       let sender : from < segment.used = ltb-true from segment.used (not-false _ checks.1.1.1.0) in
       let receiver : to < segment.used = ltb-true to segment.used (not-false _ checks.1.1.1.1.0) in
       let few : segment.used ≤ length segment.stations = omega (arith, running.few, running.long) in

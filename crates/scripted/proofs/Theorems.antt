@@ -19,10 +19,10 @@ use Rattle.station.specs.declared.station.Station.{Station}
 use Rattle.stations.specs.List.{nowhere}
 use Rattle.stepped.specs.Stepped.{table_of}
 use Rattle.stepped.proofs.Theorems.{lived_stands, lived_router}
-use Rattle.script.specs.declared.segment.Segment.{Segment}
+use Rattle.script.specs.Segment.{Segment}
 use Rattle.script.specs.Kinds.{kind_of}
 use Rattle.script.specs.Record.{with_stations}
-use Rattle.script.specs.Script.{empty_segment}
+use Rattle.script.specs.Segment.{empty_segment}
 use Rattle.scripted.specs.Scripted.{segment_after, NoneRefused, Taken, end_of, station_at, ShowsM}
 use Rattle.scripted.specs.Scripted.{Outranks, Delivery, delivery_bytes, FromMasters, Has, EachPair}
 use Rattle.scripted.specs.Theorems.{DeliveriesTaken, LastLine, OneMaster, OneMasterInScript}

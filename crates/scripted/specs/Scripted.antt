@@ -4,11 +4,11 @@ use Rattle.sums.specs.Sum.{Bytes}
 use Rattle.states.specs.declared.record.State.TheVariants.{Master}
 use Rattle.station.specs.declared.station.Station.{Station}
 use Rattle.stations.specs.List.{nowhere}
-use Rattle.script.specs.declared.segment.Segment.{Segment}
+use Rattle.script.specs.Segment.{Segment}
 use Rattle.script.specs.Kinds.{kind_of, body_length}
 use Rattle.script.specs.Record.{after_record, refusal_of}
 use Rattle.script.specs.Lines.{letter_of, letters_of}
-use Rattle.script.specs.Script.{empty_segment}
+use Rattle.script.specs.Segment.{empty_segment}
 
 -- the segment that a script's records leave, where so many bytes are still the body of the one before
 abbrev pub segment_after : Segment → List ℕ → ℕ → Segment

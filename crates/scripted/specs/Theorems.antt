@@ -2,7 +2,7 @@
 -- prints in Printed.antt, the others in Theorems.antt.
 use Rattle.std.specs.Prelude.{ℕ, ◌+◌, ◌≤◌, ◌≡◌, ◌⊎◌, List, [], ◌∷◌, ◌++◌, length}
 use Rattle.sums.specs.Sum.{Bytes}
-use Rattle.script.specs.declared.segment.Segment.{Segment}
+use Rattle.script.specs.Segment.{Segment}
 use Rattle.script.specs.Kinds.{kind_of, body_length}
 use Rattle.script.specs.Lines.{line_of, refused_line, printed_of}
 use Rattle.script.specs.Script.{rehearsal_of}

@@ -1,1 +1,1 @@
-pub mod Turning
+mod Turning

@@ -1,53 +1,60 @@
--- One record of a run, with the stations apart from the rest: what the functions behind a run promise.
-use Rattle.std.specs.Prelude.{ℕ, ◌+◌, List, [], cond, eqb, ltb, length, drop, get_or}
+-- One record of a run (01, 'The rehearsal program').
+use Rattle.std.specs.Prelude.{ℕ, ◌+◌, ◌≡◌, Option, Some, None, Result, Ok, Err, List, [], cond, eqb, ltb, length, drop, get_or}
+use Rattle.wire.specs.declared.refusal.Refusal.{Refusal}
+use Rattle.wire.specs.Refusal.{refusal_number}
 use Rattle.station.specs.declared.station.Station.{Station}
 use Rattle.script.specs.declared.kinds.Kind.{Kind}
-use Rattle.script.specs.declared.kinds.Kind.TheVariants.{Unknown}
-use Rattle.script.specs.declared.progress.Reading.{Reading}
+use Rattle.script.specs.declared.record.Record.{Record}
 use Rattle.script.specs.declared.progress.Progress.{Progress}
 use Rattle.turns.specs.declared.Turn.{Turn}
 use Rattle.script.specs.Kinds.{kind_of}
-use Rattle.script.specs.Record.{refusal_of}
+use Rattle.script.specs.Segment.{Segment}
+use Rattle.script.specs.Record.{after_record, refusal_of}
 use Rattle.script.specs.Lines.{refused_line, printed_of}
-use Rattle.script.specs.Progress.{exhausted, ended, after_taken, reading_of, segment_of, progress_of}
+use Rattle.script.specs.Progress.{exhausted, ended, after_taken, segment_in}
 
--- no record is taken
-abbrev pub ending : Reading → ℕ → ℕ → Turn
-ending reading number refusal =
-    record {
-      kind = Unknown;
-      from = 0;
-      number = number;
-      refusal = refusal;
-      reading = reading_of (ended (progress_of [] reading));
-    }
+-- what one record leaves, and its line
+pub record Step : Type 0 where
+  pub progress : Progress
+  pub line : List ℕ
 
--- the record of this kind is taken
-abbrev pub taking : Progress → Kind → List ℕ → Turn
-taking p kind body =
-    record {
-      kind = kind;
-      from = p.at + 1;
-      number = p.number;
-      refusal = 0;
-      reading = reading_of (after_taken p kind body);
-    }
+abbrev pub ends : Progress → List ℕ → Step
+ends p line = record { progress = ended p; line = line }
 
 -- the record of this kind: taken, or refused
-abbrev pub record_turn : Progress → Kind → List ℕ → Turn
-record_turn p kind body =
-    cond (eqb (refusal_of p.segment kind body) 0) (taking p kind body)
-    (ending (reading_of p) p.number (refusal_of p.segment kind body))
+abbrev pub record_step : Progress → Option Kind → List ℕ → Step
+record_step p kind body =
+    cond (eqb (refusal_of (segment_in p) kind body) 0)
+    (record {
+      progress = after_taken p kind body;
+      line = printed_of kind p.reading.number (after_record kind (segment_in p) body);
+    })
+    (ends p (refused_line p.reading.number (refusal_of (segment_in p) kind body)))
 
 -- the next record, or the end
-unfoldable pub turn_of : List ℕ → Progress → Turn
-turn_of script p =
-    cond (ltb 65536 (length script)) (ending (reading_of p) 0 30)
-    (cond (exhausted script p) (ending (reading_of p) 0 0)
-    (record_turn p (kind_of (get_or script p.at 0)) (drop (p.at + 1) script)))
+unfoldable pub step_of : List ℕ → Progress → Step
+step_of script p =
+    cond (ltb 65536 (length script)) (ends p (refused_line 0 30))
+    (cond (exhausted script p) (ends p [])
+    (record_step p (kind_of (get_or script p.reading.at 0)) (drop (p.reading.at + 1) script)))
 
--- its line, where these are the stations after it
-abbrev pub turn_line : Turn → List Station → List ℕ
-turn_line turn stations =
-    cond (eqb turn.refusal 0) (printed_of turn.kind turn.number (segment_of stations turn.reading))
-    (refused_line turn.number turn.refusal)
+-- the stations after what was found
+abbrev pub stations_left : Result (Option Record) Refusal → Segment → List Station
+stations_left (Ok (Some taken)) segment = (after_record (Some taken.kind) segment taken.body.now).stations
+stations_left (Ok None) segment = segment.stations
+stations_left (Err refusal) segment = segment.stations
+
+-- the line of what was found, with this number, where the segment after it is this
+abbrev pub line_left : Result (Option Record) Refusal → ℕ → Segment → List ℕ
+line_left (Ok (Some taken)) number segment = printed_of (Some taken.kind) number segment
+line_left (Ok None) number segment = []
+line_left (Err refusal) number segment = refused_line number (refusal_number refusal)
+
+-- the progress after a turn
+abbrev pub progress_left : Turn → Progress → Progress
+progress_left turn p = record { stations = stations_left turn.found (segment_in p); reading = turn.reading }
+
+-- a turn is that step: what it leaves, and the line of what it found
+pub record Turns (p : Progress) (step : Step) (turn : Turn) : Type 0 where
+  pub progress_is : progress_left turn p ≡ step.progress
+  pub line_is : line_left turn.found turn.number (segment_in step.progress) ≡ step.line

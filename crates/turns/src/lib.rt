@@ -1,95 +1,84 @@
 // The next record of a script: taken, refused, or none.
 #![tactic(auto)]
 
-ghost use Rattle.std.specs.Prelude.{◌≡◌, [], ◌≤◌, length};
-ghost use Rattle.script.specs.Kinds.{body_length};
+ghost use Rattle.std.specs.Prelude.{◌≡◌, ◌≤◌, length};
 ghost use Rattle.script.specs.Lines.{Printed};
-ghost use Rattle.script.specs.Progress.{progress_of, new_number};
-ghost use Rattle.turns.specs.Turn.{ending, taking, turn_of, turn_line};
+ghost use Rattle.script.specs.Progress.{segment_in};
+ghost use Rattle.turns.specs.Turn.{Turns, step_of, progress_left, line_left};
 
 use printing::{put_printed, put_refused};
-use refusing::refusal_of;
-use script::kinds::{Kind, kind_of};
-use script::progress::Reading;
-use station::station::Station;
-use taking::reading_after;
+use refusing::taken_record;
+use script::progress::{Progress, Reading};
+use script::record::Record;
+use taking::{reading_after, stations_after};
+use wire::refusal::Refusal;
 
 #[derive(Clone, Copy)]
-pub struct Turn {
-    // unknown where no record is taken
-    pub kind: Kind,
-    // where the body begins
-    pub from: usize,
+pub struct Turn<'a> {
+    // the record that is taken, none at the end of the script, or what refuses it
+    pub found: Result<Option<Record<'a>>, Refusal>,
     // the number that the line begins with
     pub number: u32,
-    // 0 where nothing is refused
-    pub refusal: u32,
     pub reading: Reading,
 }
 
-// No record is taken, and the script ends here.
-fn end(reading: Reading, number: u32, refusal: u32) -> Turn
-    ensures { result ≡ ending reading number refusal }
-{
-    let mut last = reading;
-    last.done = true;
-    Turn {
-        kind: Kind::Unknown,
-        from: 0,
-        number: number,
-        refusal: refusal,
-        reading: last,
-    }
-}
-
-// The record of this kind is taken.
-fn take(reading: Reading, kind: Kind, body: &[u8]) -> Turn
-    requires kind_in_bounds { (body_length kind ≤ length body.now) × (new_number kind reading.used ≤ 15) }
-    requires at_bound { (reading.at ≤ 65535) × (reading.number ≤ 65536) }
-    ensures { result ≡ taking (progress_of [] reading) kind body.now }
-{
-    Turn {
-        kind: kind,
-        from: reading.at + 1,
-        number: reading.number,
-        refusal: 0,
-        reading: reading_after(reading, kind, body),
-    }
-}
-
 // The next record, or the end.
-pub fn turn_of(script: &[u8], stations: [Station; 16], reading: Reading) -> Turn
-    ensures { result ≡ turn_of script.now (progress_of stations reading) }
+pub fn turn_of<'a>(script: &'a [u8], progress: &Progress) -> Turn<'a>
+    ensures { Turns progress.now (step_of script.now progress.now) result }
 {
+    let reading = progress.reading;
+    let end = Turn {
+        found: Ok(None),
+        number: reading.number,
+        reading: Reading {
+            done: true,
+            ..reading
+        },
+    };
     if script.len() > 65536 {
-        return end(reading, 0, 30);
+        return Turn {
+            found: Err(Refusal::ScriptTooLong),
+            number: 0,
+            ..end
+        };
     }
     let at = reading.at;
-    if at >= script.len() {
-        return end(reading, 0, 0);
+    if at >= script.len() || reading.number as usize > at + 1 {
+        return end;
     }
-    if (reading.number as usize) > at + 1 {
-        return end(reading, 0, 0);
+    match taken_record(progress, script[at], &script[at + 1..]) {
+        Ok(taken) => Turn {
+            found: Ok(Some(taken)),
+            reading: reading_after(reading, taken),
+            ..end
+        },
+        Err(refusal) => Turn {
+            found: Err(refusal),
+            ..end
+        },
     }
-    let from = at + 1;
-    let body = &script[from..];
-    let kind = kind_of(script[at]);
-    let refusal = refusal_of(stations, reading, kind, body);
-    if refusal != 0 {
-        return end(reading, reading.number, refusal);
-    }
-    take(reading, kind, body)
 }
 
-// Puts the line of a turn, after which the stations are these.
-pub fn put_turn(out: &mut [u8], turn: Turn, stations: [Station; 16]) -> usize
-    requires { 32 ≤ length out.old }
-    ensures { Printed (turn_line turn stations) out.old result out.new }
+// Goes on to the progress after a turn.
+pub fn advance(progress: &mut Progress, turn: Turn)
+    ensures { progress.new ≡ progress_left turn.entry progress.old }
 {
-    if turn.refusal != 0 {
-        return put_refused(out, turn.number, turn.refusal);
+    if let Ok(Some(taken)) = turn.found {
+        let after = stations_after(progress, taken);
+        progress.stations = after;
     }
-    let kind = turn.kind;
-    let reading = turn.reading;
-    put_printed(out, kind, turn.number, stations, reading)
+    progress.reading = turn.reading;
+}
+
+// Puts the line of a turn, after which the progress is this.
+pub fn put_turn(out: &mut [u8], turn: Turn, after: &Progress) -> usize
+    requires { 32 ≤ length out.old }
+    ensures { Printed (line_left turn.entry.found turn.entry.number (segment_in after.now))
+        out.old result out.new }
+{
+    match turn.found {
+        Ok(Some(taken)) => put_printed(out, taken.kind, turn.number, after),
+        Ok(None) => 0,
+        Err(refusal) => put_refused(out, turn.number, refusal),
+    }
 }

@@ -1,52 +1,30 @@
--- `printing::put_letters` meets its contract.
--- Assumes nothing.
-use Prim.Native.Nat.{ℕ}
-use mathlib.Core.Path.{◌≡◌, ap, ◌∙◌}
+-- Each turn appends one letter more.
 use native.Mathlib.Omega.{arith}
-use mathlib.Core.List.{List, ◌∷◌}
-use Rattle.text.proofs.Appending.{then_as}
-use Rattle.script.specs.Lines.{letters_of}
-use Rattle.printing.proofs.Spelled.{begins, same_long, letters_more, letters_none, letters_end}
+use Rattle.text.proofs.Appending.{then}
+use Rattle.printing.proofs.Spelled.{begins, letters_step, letters_end, letters_length}
 use Rattle.printing.proofs.put_letters.Goals as goal
 
-pub loop-k-init : goal.loop-k-init
-loop-k-init c =
-    let first = c.put_byte-next.ensures in
-    let a = c.args in
-    (omega arith, omega arith, rw (letters_none a.stations) (begins _ _ first.within))
+pub loop-station-init : goal.loop-station-init
+loop-station-init c =
+    let same = c.into_iter-station-iterator.ensures.into_iter_gives in
+    let taken = c.take-station-items.ensures in
+    (c.put_byte-next.ensures.within, λ after last a. rw (same, taken.count, taken.source, c.iter.ensures.rest) at a)
 
-pub loop-k-preserved : goal.loop-k-preserved
-loop-k-preserved c =
-    let loop = c.loop-k in (
-      omega arith,
-      omega arith,
-      then_as
-          (letters_more loop.k c.args.stations _ _ c.well_formed.1.1.0.1.0.1 c.if-k-lt16.true
-          c.letter_of.ensures)
-          loop.invariant.2
-          c.put_byte-next-in-loop-k.ensures,
+pub loop-station-preserved : goal.loop-station-preserved
+loop-station-preserved c =
+    let steps = c.in-Some.ensures.steps in
+    let letter = c.put_byte-next-in-loop-station.ensures in (
+      letter.within,
+      λ after last a.
+          c.loop-station.invariant.1 after last (rw (letters_step _ _ _ _ _ _ steps.0 steps.1 c.letter_of.ensures) (then letter a)),
     )
 
-pub shape_of-out-else-k-lt16 : goal.shape_of-out-else-k-lt16
-shape_of-out-else-k-lt16 c = same_long c.loop-k.invariant.2 ∙ same_long c.put_byte-next.ensures
+pub returns-clause-letters : goal.returns-clause-letters
+returns-clause-letters c =
+    let left = c.loop-station.station-iterator in
+    let none = letters_end left.n left.iter.rest.now (λ h. (c.in-None.ensures.steps h).0) in
+    then c.put_byte-next.ensures
+    (c.loop-station.invariant.1 _ _ (rw none (begins _ _ c.loop-station.invariant.0)))
 
-pub returns-else-k-lt16 : goal.returns-else-k-lt16
-returns-else-k-lt16 c =
-    then_as
-    (ap (λ (l : List ℕ). 32 ∷ l)
-    (letters_end c.loop-k.k c.args.used c.args.stations c.well_formed.1.1.0.1.0.1 c.if-k-lt16.false
-    c.loop-k.invariant.0))
-    c.put_byte-next.ensures
-    c.loop-k.invariant.2
-
-pub shape_of-out-after-loop-k : goal.shape_of-out-after-loop-k
-shape_of-out-after-loop-k c = same_long c.loop-k.invariant.2 ∙ same_long c.put_byte-next.ensures
-
-pub returns-after-loop-k : goal.returns-after-loop-k
-returns-after-loop-k c =
-    let a = c.args in
-    let whole : a.used ≡ c.loop-k.k = omega arith in
-    then_as
-    (ap (λ (n : ℕ). 32 ∷ letters_of n a.stations) whole)
-    c.put_byte-next.ensures
-    c.loop-k.invariant.2
+pub returns-clause-few : goal.returns-clause-few
+returns-clause-few c = letters_length c.args.used c.args.stations.now (omega arith)

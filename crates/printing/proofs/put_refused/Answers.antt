@@ -1,5 +1,6 @@
 -- `printing::put_refused` meets its contract.
 -- Assumes nothing.
+use native.Mathlib.Omega.{arith}
 use Rattle.text.proofs.Appending.{then}
 use Rattle.script.specs.Lines.{refused_line}
 use Rattle.printing.proofs.Spelled.{prints, refused_short}
@@ -8,9 +9,10 @@ use Rattle.printing.proofs.put_refused.Goals as goal
 pub returns : goal.returns
 unfolding refused_line
 returns c =
-    prints
+    let number = c.number.ensures in
+    rw (← number.number)
+    (prints
     (then (then (then c.put_decimal-next.ensures c.put-next.ensures) c.put_decimal-next-2.ensures)
     c.put_byte.ensures)
-    (refused_short c.args.number c.args.refusal c.ranges.number.fits
-    c.ranges.refusal.fits)
-    c.requires
+    (refused_short c.args.number c.number.result c.ranges.number.fits (omega arith))
+    c.requires)

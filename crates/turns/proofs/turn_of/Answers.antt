@@ -1,52 +1,45 @@
 -- `turns::turn_of` meets its contract.
 -- Assumes nothing.
-use mathlib.Core.Path.{sym, ◌∙◌}
+use mathlib.Core.Path.{refl}
 use native.Mathlib.Omega.{arith}
-use Rattle.script.specs.Progress.{segment_of}
-use Rattle.turns.proofs.Turning.{body_whole, number_fits, turn_long, turn_none, turn_misplaced, turn_refused, turn_taken}
+use Rattle.script.specs.Progress.{segment_in}
+use Rattle.turns.proofs.Turning.{number_fits, step_long, step_none, step_misplaced, turn_refused, turn_taken}
 use Rattle.turns.proofs.turn_of.Goals as goal
+use Rattle.turns.proofs.turn_of.Goals.{then-at-script-via-then-at-script, then-at-script-via-else-at-script+then-reading-at}
 
 pub returns-then-script-gt65536 : goal.returns-then-script-gt65536
 returns-then-script-gt65536 c =
     let a = c.args in
-    c.end.ensures ∙ turn_long a.script.now a.stations a.reading (omega arith)
+    rw (step_long a.script.now a.progress.now (omega arith))
+    (record { progress_is = refl; line_is = refl })
 
 pub returns-then-at-script : goal.returns-then-at-script
 returns-then-at-script c =
     let a = c.args in
-    c.end-then-at-script.ensures
-    ∙ turn_none a.script.now a.stations a.reading (omega arith) c.if-at-script.true
+    let fits = c.if-script-gt65536.false in
+    elim c.then-at-script.branch [
+      | then-at-script-via-then-at-script w ↦
+          rw (step_none a.script.now a.progress.now fits w.if-at-script.true)
+          (record { progress_is = refl; line_is = refl })
+      | then-at-script-via-else-at-script+then-reading-at w ↦
+          rw (step_misplaced a.script.now a.progress.now fits w.if-at-script.false w.if-reading-at.true)
+          (record { progress_is = refl; line_is = refl })
+    ]
 
-pub returns-then-reading-at : goal.returns-then-reading-at
-returns-then-reading-at c =
-    let a = c.args in
-    c.end-then-reading-at.ensures
-    ∙ turn_misplaced a.script.now a.stations a.reading (omega arith) c.if-at-script.false
-    c.if-reading-at.true
+pub reading_after-requires-clause-number_bound : goal.reading_after-requires-clause-number_bound
+reading_after-requires-clause-number_bound c =
+    let found = c.in-Ok.ensures in
+    number_fits (segment_in c.args.progress.now) _ _ _ found.refused found.taken.0
 
-pub returns-then-refusal-ne0 : goal.returns-then-refusal-ne0
-returns-then-refusal-ne0 c =
+pub returns-in-Ok : goal.returns-in-Ok
+returns-in-Ok c =
     let a = c.args in
-    c.end-then-refusal-ne0.ensures
-    ∙ turn_refused a.script.now a.stations a.reading (omega arith) c.if-at-script.false
-    c.if-reading-at.false _ c.kind_of-kind.ensures _ c.refusal_of-refusal.ensures c.if-refusal-ne0.true
+    let found = c.in-Ok.ensures in
+    turn_taken a.script.now a.progress.now c.if-script-gt65536.false c.if-at-script.false c.if-reading-at.false
+    c.in-Ok.taken _ found.refused found.taken.0 found.taken.1 c.reading_after.ensures
 
-pub take-requires : goal.take-requires
-take-requires c =
+pub returns-in-Err : goal.returns-in-Err
+returns-in-Err c =
     let a = c.args in
-    let none = sym c.refusal_of-refusal.ensures ∙ c.if-refusal-ne0.false in
-    let segment = segment_of a.stations a.reading in record {
-      kind_in_bounds = (body_whole segment _ _ none, number_fits segment _ _ none);
-      at_bound = (
-        omega (arith, c.if-script-gt65536.false, c.if-at-script.false),
-        omega (arith, c.if-script-gt65536.false, c.if-at-script.false, c.if-reading-at.false),
-      );
-    }
-
-pub returns : goal.returns
-returns c =
-    let a = c.args in
-    c.take.ensures
-    ∙ turn_taken a.script.now a.stations a.reading (omega arith) c.if-at-script.false
-    c.if-reading-at.false _ c.kind_of-kind.ensures
-    (sym c.refusal_of-refusal.ensures ∙ c.if-refusal-ne0.false)
+    turn_refused a.script.now a.progress.now c.if-script-gt65536.false c.if-at-script.false c.if-reading-at.false
+    c.in-Err.refusal c.in-Err.ensures.refused
