@@ -9,6 +9,7 @@ use native.Mathlib.Omega.{arith}
 use lib.Dec.{eqb, ltb}
 use lib.ListN.{length, get_or}
 use borrow.Author.Tests.{ne_eqb, eqb-true, eqb-false, not-false}
+use Rattle.std.proofs.lemmas.Bool.{cases_eq}
 use Rattle.writing.specs.Writing.{address_bytes_wrong}
 use Rattle.wire.proofs.Checks.{passed}
 use Rattle.wire.proofs.Tested.{two_passed}
@@ -30,7 +31,7 @@ use Rattle.histories.specs.Standing.{Standing, removes, NotRemoved}
 use Rattle.histories.specs.Theorems.{ConfiguredStays}
 use Rattle.histories.proofs.Begun.{empty_held}
 use Rattle.histories.proofs.Does.{gone_by, call_does}
-use Rattle.histories.proofs.Held.{Held, same_or_not}
+use Rattle.histories.proofs.Held.{Held}
 use Rattle.histories.proofs.Histories.{call_held, history_held}
 use Rattle.histories.proofs.Stays.{Still, does_long, as_it_was, still}
 
@@ -40,7 +41,7 @@ only_test : (f : Found) (words : List ℕ) → Held words → (v p : ℕ) → p 
 unfolding router_place
 only_test None words held v p below w some e =
     absurd (missing words v (sym (ap (λ (t : Bool). cond t None (place_of words v)) (ne_eqb v 0 some)) ∙ e) p below w)
-only_test (Some q) words held v p below w some e = other (same_or_not q p)
+only_test (Some q) words held v p below w some e = other (cases_eq q p)
   where
     there : (q < 255) × (get_or words (base_of q) 0 ≡ v) × (v ≡ 0 → ⊥)
     there = sought_word words v q e

@@ -10,6 +10,7 @@ use lib.Dec.{eqb}
 use lib.ListN.{length, get_or}
 use lib.Seq.{length-paste}
 use borrow.Author.Tests.{ne_eqb}
+use Rattle.std.proofs.lemmas.Bool.{cases_eq}
 use Rattle.wire.proofs.Checks.{passed}
 use Rattle.states.specs.declared.record.Router.{Router}
 use Rattle.states.proofs.Kept.{Kept}
@@ -29,7 +30,7 @@ use Rattle.histories.specs.Theorems.{PrimaryStays}
 use Rattle.histories.proofs.Begun.{empty_held}
 use Rattle.histories.proofs.Changed.{Changed}
 use Rattle.histories.proofs.Does.{same, counts, changes, Does, moves, configures, frees, call_does}
-use Rattle.histories.proofs.Held.{Held, same_or_not}
+use Rattle.histories.proofs.Held.{Held}
 use Rattle.histories.proofs.Histories.{call_held}
 use Rattle.histories.proofs.Theorems.{list_other}
 
@@ -146,7 +147,7 @@ module _ (words lists : List ℕ) (held : Held words) (v p : ℕ) (at : router_p
       record {
         place =
             same_router (set_record words q r) words v
-            (λ k. stored_test words q r v below held.long new old k (same_or_not k q))
+            (λ k. stored_test words q r v below held.long new old k (cases_eq k q))
             ∙ at;
         kept = same_kept (set_record words q r) (record_other words q r below held.long p (elsewhere q u e n));
         list = list;
@@ -163,7 +164,7 @@ module _ (words lists : List ℕ) (held : Held words) (v p : ℕ) (at : router_p
   still gone w l other (moves after (changes u q next r s c)) =
       record {
         place = same_router w words v (λ k. ap (λ (x : ℕ). eqb x v) (beside_first q words w c.beside k)) ∙ at;
-        kept = changed_kept q w r c (same_or_not p q);
+        kept = changed_kept q w r c (cases_eq p q);
         list = λ long n few. refl;
       }
   still gone w l other (configures u priority interval preempt addresses q e s) =

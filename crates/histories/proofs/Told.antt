@@ -9,7 +9,7 @@ use native.Mathlib.Omega.{arith}
 use lib.Dec.{eqb}
 use lib.ListN.{get_or}
 use borrow.Author.Tests.{eq-eqb, ne_eqb, eqb-true, eqb-false}
-use Rattle.std.proofs.lemmas.Bool.{and_right}
+use Rattle.std.proofs.lemmas.Bool.{and_right, cases_eq}
 use Rattle.judging.specs.declared.Fields.{Fields}
 use Rattle.judging.specs.Judging.{Judged, judged_of}
 use Rattle.std.specs.Prelude.{Ok, Err, Some, None}
@@ -33,7 +33,7 @@ use Rattle.histories.specs.Standing.{removes}
 use Rattle.histories.specs.Theorems.{ToldCounts}
 use Rattle.histories.proofs.Begun.{empty_held, empty_record}
 use Rattle.histories.proofs.Does.{Moves, same, counts, changes, IsEvent, event_moves}
-use Rattle.histories.proofs.Held.{Held, same_or_not}
+use Rattle.histories.proofs.Held.{Held}
 use Rattle.histories.proofs.Histories.{call_held}
 use Rattle.histories.proofs.Standing.{call_still, fresh_at}
 use Rattle.histories.proofs.Stays.{same_router, stored_test, new_number_lem}
@@ -180,7 +180,7 @@ module _ (v : ℕ) where
     -- removed: it is found nowhere
     removed_test : (f : Found) → router_place (set_record m.words p freed) v ≡ f → f ≡ None
     removed_test None s = refl
-    removed_test (Some q) s = absurd (other (same_or_not q p))
+    removed_test (Some q) s = absurd (other (cases_eq q p))
       where
         below : p < 255
         below = sought_below m.words v p at
@@ -233,7 +233,7 @@ module _ (v : ℕ) where
         → router_place (set_record m.words q r) v ≡ None
     stored_nowhere q r below new old =
         same_router (set_record m.words q r) m.words v
-        (λ k. stored_test m.words q r v below held.long new old k (same_or_not k q))
+        (λ k. stored_test m.words q r v below held.long new old k (cases_eq k q))
         ∙ nowhere
 
     -- a packet for it is refused by 9
