@@ -10,9 +10,9 @@ use lib.ListN.{length}
 use borrow.Author.Tests.{eq-eqb, ne_eqb, not-false, ltb-false}
 use Rattle.writing.specs.Writing.{address_bytes_wrong}
 use Rattle.wire.specs.declared.refusal.Refusal.{Refusal}
-use Rattle.wire.specs.Check.{Check, first_refusal}
+use Rattle.wire.specs.Check.{Check}
 use Rattle.wire.specs.Refusal.{refusal_number}
-use Rattle.wire.proofs.Checks.{passed, refusal_after, refusal_before}
+use Rattle.wire.proofs.Checks.{First, first, passed, refusal_after, refusal_before}
 use Rattle.wire.proofs.Refusals.{nonzero}
 use Rattle.wire.proofs.Tested.{two_passed}
 use Rattle.states.specs.Step.{state_number}
@@ -24,12 +24,6 @@ use Rattle.configuring.specs.Configuring.{is_found, new_router, freed, settings_
 use Rattle.configuring.specs.Configuring.{configure_refusal, Configured, remove_checks, remove_refusal, Removed}
 
 module _ (words lists : List ℕ) (v priority interval : ℕ) (preempt : Bool) (addresses : List ℕ) where
-  pub configure_refused : (number : ℕ) → number ≡ configure_refusal words v priority interval addresses → ¬ (number ≡ 0)
-      → Configured words lists v priority interval preempt addresses number words lists
-  configure_refused number e n =
-      let t = ne_eqb number 0 n in
-      record { answer_is = e; words_are = rw (← e, t); lists_are = rw (← e, t) }
-
   pub configure_done : (p : ℕ) (after lists_after : List ℕ) → configure_refusal words v priority interval addresses ≡ 0
       → place_of words 0 ≡ Some p → after ≡ set_record words p (new_router v priority interval preempt (length addresses / 4))
       → lists_after ≡ set_list lists p addresses → Configured words lists v priority interval preempt addresses 0 after lists_after
@@ -38,7 +32,7 @@ module _ (words lists : List ℕ) (v priority interval : ℕ) (preempt : Bool) (
 
 module _ (words : List ℕ) (v priority interval : ℕ) (addresses : List ℕ) where
   -- what no table decides goes before what the table does
-  abbrev table_checks : List Check
+  abbrev pub table_checks : List Check
   table_checks = (18, is_found (place_of words v)) ∷ ((19, not (is_found (place_of words 0))) ∷ [])
 
   pub settings_refused : (reason : Refusal) → refusal_number reason ≡ settings_refusal v priority interval addresses
@@ -47,10 +41,12 @@ module _ (words : List ℕ) (v priority interval : ℕ) (addresses : List ℕ) w
   settings_refused reason e =
       e ∙ sym (refusal_before (settings_checks v priority interval addresses) table_checks (λ z. nonzero reason (e ∙ z)))
 
-  pub settings_pass : 0 ≡ settings_refusal v priority interval addresses
-      → configure_refusal words v priority interval addresses ≡ first_refusal table_checks
+  pub table_refused : (r : ℕ) → 0 ≡ settings_refusal v priority interval addresses → First r table_checks
+      → r ≡ configure_refusal words v priority interval addresses
   unfolding configure_refusal settings_refusal
-  settings_pass e = refusal_after (settings_checks v priority interval addresses) table_checks (omega arith) (sym e)
+  table_refused r e f =
+      first r table_checks f
+      ∙ sym (refusal_after (settings_checks v priority interval addresses) table_checks (omega arith) (sym e))
 
   -- where nothing is refused, there is a free place
   pub never_full : configure_refusal words v priority interval addresses ≡ 0 → place_of words 0 ≡ None → ⊥

@@ -4,35 +4,31 @@
 mod lines; // the line of an election
 mod segment; // the stations of a record, and its deliveries
 
-use crate::lines::line_of;
+use crate::lines::{put_letters, put_master};
 use crate::segment::{hand_over, read_stations};
-use records::left;
-use records::page::{write, write_bad};
-use records::record::read_kind;
+use records::answering::answer_all;
+use records::page::Page;
+use records::reading::Fault;
+use std::alloc::Global;
 use std::io;
-use std::io::{Read, Write};
+use std::io::Read;
 
-// Takes one record, which begins with the number of its stations, and answers whether to go on to the next.
-fn take_record<R: Read, W: Write>(input: &mut R, output: &mut W) -> io::Result<bool> {
-    let count = read_kind(input)?;
-    let before = read_stations(input, count.byte)?;
-    let after = hand_over(input, before, count.byte)?;
-    if after.good {
-        write(output, line_of(before, after, count.byte))
-    } else {
-        write_bad(output, count.came)
-    }
-}
-
-// Takes records to the end.
-fn run<R: Read, W: Write>(input: &mut R, output: &mut W) -> io::Result<()> {
-    let mut budget = u64::MAX;
-    while 0 < budget {
-        budget = left(budget, take_record(input, output)?);
-    }
-    Ok(())
+// Runs the election of a record that begins with the number of its stations.
+fn elect<R: Read>(alloc: Global, count: u8, input: &mut R) -> Result<Page, Fault> {
+    let mut page = Page::new();
+    let mut stations = read_stations(alloc, count, input)?;
+    put_letters(&mut page, &stations);
+    hand_over(input, &mut stations)?;
+    page.byte(b' ');
+    put_letters(&mut page, &stations);
+    page.byte(b' ');
+    put_master(&mut page, &stations);
+    page.byte(b'\n');
+    Ok(page)
 }
 
 fn main(rt: HostRuntime) -> io::Result<()> {
-    run(&mut rt.stdin(), &mut rt.stdout())
+    answer_all(&mut rt.stdin(), &mut rt.stdout(), |count, input| {
+        elect(rt.alloc(), count, input)
+    })
 }

@@ -3,9 +3,9 @@
 use mathlib.Core.Path.{◌≡◌, refl, sym, ap, ◌∙◌}
 use mathlib.Core.List.{List}
 use mathlib.Core.Bool.{Bool, true, false}
-use Prim.Native.Nat.{ℕ, ◌+◌, ◌-◌, ◌*◌, ◌≤◌, ◌<◌}
+use Prim.Native.Nat.{ℕ, ◌*◌, ◌≤◌, ◌<◌}
 use native.Mathlib.Omega.{arith}
-use lib.ListN.{length, take, drop}
+use lib.ListN.{length}
 use borrow.Author.Tests.{lt-ltb, le-ltb}
 use Rattle.states.specs.declared.record.Router.{Router}
 use Rattle.states.specs.declared.record.Turn.{Turn}
@@ -19,7 +19,6 @@ use Rattle.states.proofs.Turning.{applied_turn}
 use Rattle.writing.specs.Writing.{over}
 use Rattle.output.specs.Output.{bytes_of, need_of}
 use Rattle.places.specs.Place.{primary_of, record_at, set_event}
-use Rattle.places.proofs.Records.{read_in_range}
 use Rattle.wire.specs.declared.refusal.Refusal.TheVariants.{Room}
 use Rattle.std.specs.Prelude.{Ok, Err}
 use Rattle.events.specs.Lists.{list_at}
@@ -50,12 +49,6 @@ module _ (words lists : List ℕ) (place : ℕ) (outcome : Outcome) (leftover : 
         words_are = rw (← is_need, t, w);
         room_is = rw (← is_need, t, o);
       }
-
--- whatever the memory, a router that was read has at most 16 addresses
-pub loaded_most : (words : List ℕ) (p : ℕ) (r : Router) → r ≡ record_at words p → r.count ≤ 16
-loaded_most words p r e =
-    let c : r.count ≡ (record_at words p).count = ap (λ (x : Router). x.count) e in
-    omega (arith, (read_in_range words p).count)
 
 -- what an event changes leaves the router configured as it was
 pub turned_count : (heard : Bool) (words : List ℕ) (p : ℕ) (t : Turn)

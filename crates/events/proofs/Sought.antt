@@ -8,14 +8,11 @@ use native.Mathlib.Omega.{arith}
 use lib.Dec.{eqb}
 use lib.ListN.{get_or}
 use borrow.Author.Tests.{eqb-false}
-use Rattle.states.specs.declared.step.Event.{Event}
-use Rattle.std.specs.Prelude.{Err, Some, None}
+use Rattle.std.specs.Prelude.{Some, None}
 use Rattle.places.specs.Place.{base_of, place_of}
 use Rattle.places.proofs.Finding.{found}
-use Rattle.wire.specs.declared.refusal.Refusal.{Refusal}
-use Rattle.wire.specs.Refusal.{refusal_number, room_needed}
-use Rattle.events.specs.Result.{Answered, Result, Leaves, refuses, router_place}
-use Rattle.events.specs.Events.{happened_at, happened_of, clocked_at, clocked_of}
+use Rattle.events.specs.Result.{Answered, Result, Leaves, router_place}
+use Rattle.events.specs.Events.{clocked_at, clocked_of}
 
 sought_test : (t : Bool) (words : List ℕ) (v p : ℕ) → cond t None (place_of words v) ≡ Some p → place_of words v ≡ Some p
 sought_test true words v p e = absurd (let z : ◌≡◌ {A = ℕ} 0 1 = cc in omega arith)
@@ -41,27 +38,7 @@ sought_word words v p e =
 pub leaves_equal : (a b : Result) (answer : Answered) (words room : List ℕ) → a ≡ b → Leaves a answer words room → Leaves b answer words room
 leaves_equal a b answer words room e h = subst (λ (x : Result). Leaves x answer words room) e h
 
--- a refusal that leaves everything as it was
-pub leaves_refused : (reason : Refusal) (words room : List ℕ) → room_needed reason ≡ 0
-    → Leaves (refuses (refusal_number reason) words room) (Err reason) words room
-leaves_refused reason words room e = record { answer_is = rw e; words_are = refl; room_is = refl }
-
-pub happened : (words lists : List ℕ) (v p : ℕ) (e : Event) (room : List ℕ) → router_place words v ≡ Some p
-    → happened_at (Some p) words lists e room ≡ happened_of words lists v e room
-unfolding happened_of
-happened words lists v p e room s = rw s
-
-pub not_happened : (words lists : List ℕ) (v : ℕ) (e : Event) (room : List ℕ) → router_place words v ≡ None
-    → refuses 20 words room ≡ happened_of words lists v e room
-unfolding happened_of
-not_happened words lists v e room s = rw s
-
 pub clocked : (words lists : List ℕ) (v p d : ℕ) (room : List ℕ) → router_place words v ≡ Some p
     → clocked_at (Some p) words lists d room ≡ clocked_of words lists v d room
 unfolding clocked_of
 clocked words lists v p d room s = rw s
-
-pub not_clocked : (words lists : List ℕ) (v d : ℕ) (room : List ℕ) → router_place words v ≡ None
-    → refuses 20 words room ≡ clocked_of words lists v d room
-unfolding clocked_of
-not_clocked words lists v d room s = rw s

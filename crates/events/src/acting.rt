@@ -28,10 +28,8 @@ pub fn seek(words: &[u32; 4096], vrid: u8) -> Option<Place>
 fn load_heard(words: &[u32; 4096], place: Place, heard: bool) -> Router
     ensures { result ≡ heard_router heard (record_at words.now place) }
 {
-    if heard {
-        return count_accepted(load(words, place));
-    }
-    load(words, place)
+    let own = load(words, place);
+    if heard { count_accepted(own) } else { own }
 }
 
 // Stores what an event changes of the router at a place.

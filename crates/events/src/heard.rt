@@ -16,6 +16,7 @@ impl<'a> Heard<'a> {
     ghost use Rattle.events.specs.Lists.{their_list};
 
     // The address list that it carries.
+    #[tactic(auto, unfolding(crate::specs::Lists::their_list))]
     pub fn list(self) -> &'a [u8]
         ensures { result.now ≡ their_list self.entry.packet.now self.entry.fields }
     {

@@ -21,6 +21,7 @@ use states::step::{Event, turn};
 use wire::refusal::Refusal;
 
 // An event for the router at a place; refuses by 22.
+#[tactic(auto, using(crate::proofs::Acted::turned_step, crate::proofs::Sought::leaves_equal))]
 fn happen_at(
     words: &mut [u32; 4096],
     lists: &[u8; 16320],
@@ -38,6 +39,7 @@ fn happen_at(
 }
 
 // Startup or shutdown of a virtual router; refuses by 20 or 22.
+#[tactic(auto, unfolding(crate::specs::Events::happened_of))]
 pub fn happen(
     words: &mut [u32; 4096],
     lists: &[u8; 16320],
@@ -86,6 +88,7 @@ fn tick_at(
 }
 
 // A clock step of a virtual router; refuses by 20 or 22.
+#[tactic(auto, unfolding(crate::specs::Events::clocked_of))]
 pub fn tick(
     words: &mut [u32; 4096],
     lists: &[u8; 16320],
@@ -103,6 +106,7 @@ pub fn tick(
 }
 
 // What a virtual router is at: its record, or refusal 20.
+#[tactic(auto, unfolding(crate::specs::Events::asked_of))]
 pub fn tell(words: &[u32; 4096], vrid: u8) -> Result<Router, Refusal>
     ensures { Tells (asked_of words.now vrid) result }
 {

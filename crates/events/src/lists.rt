@@ -6,6 +6,7 @@ use places::place::Place;
 use rooms::put;
 
 // The address bytes of a place that has so many addresses.
+#[tactic(auto, unfolding(crate::specs::Lists::list_at))]
 pub fn list_at(lists: &[u8; 16320], place: Place, count: u8) -> &[u8]
     requires { count ≤ 16 }
     ensures bytes { result.now ≡ list_at lists.now place count }
@@ -16,6 +17,7 @@ pub fn list_at(lists: &[u8; 16320], place: Place, count: u8) -> &[u8]
 }
 
 // Whether two address lists have the same count, the same addresses and the same order.
+#[tactic(auto, using(crate::proofs::Matching::compared))]
 pub fn lists_match(ours: &[u8], theirs: &[u8]) -> bool
     ensures { result ≡ lists_match ours.now theirs.now }
 {
@@ -23,6 +25,7 @@ pub fn lists_match(ours: &[u8], theirs: &[u8]) -> bool
 }
 
 // Puts the address bytes of a place into the lists.
+#[tactic(auto, unfolding(crate::specs::Lists::set_list))]
 pub fn put_list(lists: &mut [u8; 16320], place: Place, addresses: &[u8])
     requires { length addresses.now ≤ 64 }
     ensures { lists.new ≡ set_list lists.old place addresses.now }

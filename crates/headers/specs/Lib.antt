@@ -1,2 +1,3 @@
 pub mod Packet
 pub mod Cause
+pub mod Theorems

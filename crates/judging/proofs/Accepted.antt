@@ -1,13 +1,11 @@
 -- What an answer of judging says of its packet: a refusal is at most 8, and the address list of an accepted packet lies in it.
 -- Assumes nothing.
-use mathlib.Core.Path.{◌≡◌, refl, ap}
+use mathlib.Core.Path.{◌≡◌, ap}
 use mathlib.Core.List.{List, [], ◌∷◌}
 use mathlib.Core.Bool.{Bool, true, false, cond}
 use Prim.Native.Nat.{ℕ, ◌+◌, ◌-◌, ◌*◌, ◌≤◌}
 use native.Mathlib.Omega.{arith}
-use lib.Dec.{eqb}
 use lib.ListN.{length, drop, length-drop, length-take}
-use borrow.Author.Tests.{eqb-true, eqb-false}
 use Rattle.judging.specs.declared.Fields.{Fields}
 use Rattle.std.specs.Prelude.{Ok, Err}
 use Rattle.wire.specs.Check.{Check, first_refusal}
@@ -37,38 +35,19 @@ packet_most : (packet : List ℕ) → refusal_of packet ≤ 8
 unfolding refusal_of
 packet_most packet = refusal_most 8 (packet_checks packet) (omega arith)
 
-answer_test : (t : Bool) (packet : List ℕ) (number : ℕ) → eqb (refusal_of packet) 0 ≡ t
-    → Err number ≡ cond t (Ok (fields_of packet)) (Err (refusal_of packet)) → number ≡ refusal_of packet
-answer_test true packet number e f = absurd (let z : ◌≡◌ {A = ℕ} 0 1 = cc in omega arith)
-answer_test false packet number e f = cc
-
 pub refused_most : (packet : List ℕ) (number : ℕ) → Err number ≡ judged_of packet → number ≤ 8
 unfolding judged_of
-refused_most packet number f =
-    let e = answer_test (eqb (refusal_of packet) 0) packet number refl f in
-    omega (arith, packet_most packet)
+refused_most packet number f = let most = packet_most packet in grind arith
 
 -- a packet that is refused is refused by 1 or more
-least_test : (t : Bool) (packet : List ℕ) (number : ℕ) → eqb (refusal_of packet) 0 ≡ t
-    → Err number ≡ cond t (Ok (fields_of packet)) (Err (refusal_of packet)) → number ≡ 0 → ⊥
-least_test true packet number e f z = let y : ◌≡◌ {A = ℕ} 0 1 = cc in omega arith
-least_test false packet number e f z =
-    let y : refusal_of packet ≡ number = cc in eqb-false (refusal_of packet) 0 e (omega arith)
-
 pub refused_least : (packet : List ℕ) (number : ℕ) → Err number ≡ judged_of packet → ¬ (number ≡ 0)
 unfolding judged_of
-refused_least packet number f = least_test (eqb (refusal_of packet) 0) packet number refl f
-
-fields_test : (t : Bool) (packet : List ℕ) (fields : Fields) → eqb (refusal_of packet) 0 ≡ t
-    → Ok fields ≡ cond t (Ok (fields_of packet)) (Err (refusal_of packet))
-    → (refusal_of packet ≡ 0) × (fields ≡ fields_of packet)
-fields_test true packet fields e f = (eqb-true (refusal_of packet) 0 e, cc)
-fields_test false packet fields e f = absurd (let z : ◌≡◌ {A = ℕ} 0 1 = cc in omega arith)
+refused_least packet number f = grind arith
 
 pub accepted_is : (packet : List ℕ) (fields : Fields) → Ok fields ≡ judged_of packet
     → (refusal_of packet ≡ 0) × (fields ≡ fields_of packet)
 unfolding judged_of
-accepted_is packet fields f = fields_test (eqb (refusal_of packet) 0) packet fields refl f
+accepted_is packet fields f = grind arith
 
 payload_most : (packet : List ℕ) → length (payload packet) ≤ length packet - header_length packet
 payload_most packet =

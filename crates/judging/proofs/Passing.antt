@@ -1,19 +1,15 @@
 -- How the header's and the message's checks decide a packet together, in the steps of `judge`.
 -- Assumes nothing.
-use mathlib.Core.Path.{◌≡◌, refl, sym, ap, ◌∙◌}
-use mathlib.Core.Bool.{Bool, true, false, cond}
+use mathlib.Core.Path.{◌≡◌, sym, ◌∙◌}
 use mathlib.Core.List.{List}
 use Prim.Native.Nat.{ℕ, ◌+◌}
 use native.Mathlib.Omega.{arith}
-use lib.Dec.{eqb}
-use borrow.Author.Tests.{eqb-true, eq-eqb, ne_eqb}
 use Rattle.wire.specs.declared.refusal.Refusal.{Refusal}
 use Rattle.wire.specs.Check.{first_refusal}
 use Rattle.wire.specs.Refusal.{refusal_number, number_answered, numbered}
 use Rattle.wire.proofs.Refusals.{nonzero}
 use Rattle.judging.specs.declared.Fields.{Fields}
-use Rattle.std.specs.Prelude.{Result, Ok, Err, is_ok}
-use Rattle.std.proofs.lemmas.Bool.{true≢false, false≢true}
+use Rattle.std.specs.Prelude.{Result, Ok, Err}
 use Rattle.wire.specs.Reading.{number_at}
 use Rattle.headers.specs.Packet.{header_length, header_checks, payload}
 use Rattle.judging.specs.Message.{message_checks}
@@ -31,12 +27,12 @@ message_decides packet e = refusal_after (header_checks packet) (message_checks 
 
 refuses : (packet : List ℕ) (number : ℕ) → number ≡ refusal_of packet → ¬ (number ≡ 0) → Err number ≡ judged_of packet
 unfolding judged_of
-refuses packet number e n = rw (e, ne_eqb (refusal_of packet) 0 (λ z. n (e ∙ z)))
+refuses packet number e n = grind arith
 
 pub accepts : (packet : List ℕ) (fields : Fields) → refusal_of packet ≡ 0 → fields ≡ fields_of packet
     → Ok fields ≡ judged_of packet
 unfolding judged_of
-accepts packet fields e f = rw (eq-eqb (refusal_of packet) 0 e, f)
+accepts packet fields e f = grind arith
 
 -- the header refuses
 pub header_refuses : (packet : List ℕ) (refusal : Refusal) → refusal_number refusal ≡ first_refusal (header_checks packet)
@@ -70,14 +66,8 @@ both_pass packet fields h m f = accepts packet fields (message_decides packet h 
 pub ruleset steps = (header_passed, message_holds, header_refuses, message_refuses, both_pass)
 
 -- the number of a packet's answer is its refusal
-number_test : (t : Bool) (packet : List ℕ) (answer : Result Fields Refusal) → eqb (refusal_of packet) 0 ≡ t
-    → numbered answer ≡ cond t (Ok (fields_of packet)) (Err (refusal_of packet)) → number_answered answer ≡ refusal_of packet
-number_test true packet (Ok fields) e j = sym (eqb-true (refusal_of packet) 0 e)
-number_test true packet (Err refusal) e j = absurd (false≢true (ap is_ok j))
-number_test false packet (Ok fields) e j = absurd (true≢false (ap is_ok j))
-number_test false packet (Err refusal) e j = cc
-
 pub number_judged : (packet : List ℕ) (answer : Result Fields Refusal) → numbered answer ≡ judged_of packet
     → number_answered answer ≡ refusal_of packet
 unfolding judged_of
-number_judged packet answer j = number_test (eqb (refusal_of packet) 0) packet answer refl j
+number_judged packet (Ok fields) j = grind arith
+number_judged packet (Err refusal) j = grind arith

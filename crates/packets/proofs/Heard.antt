@@ -1,6 +1,6 @@
 -- The ends of handing over a packet.
 -- Assumes nothing.
-use mathlib.Core.Path.{◌≡◌, refl, sym, ap, ◌∙◌}
+use mathlib.Core.Path.{◌≡◌, sym, ap, ◌∙◌}
 use mathlib.Core.List.{List}
 use mathlib.Core.Bool.{Bool, true, false, cond, not}
 use Prim.Native.Nat.{ℕ, ◌≤◌}
@@ -8,7 +8,7 @@ use native.Mathlib.Omega.{arith}
 use lib.Dec.{eqb}
 use borrow.Author.Tests.{ne_eqb}
 use Rattle.judging.specs.declared.Fields.{Fields}
-use Rattle.std.specs.Prelude.{Ok, Err, Some, None}
+use Rattle.std.specs.Prelude.{Ok, Err}
 use Rattle.judging.specs.Judging.{judged_of}
 use Rattle.judging.proofs.Accepted.{refused_most}
 use Rattle.states.specs.declared.record.Turn.{Turn}
@@ -20,8 +20,7 @@ use Rattle.states.proofs.Turning.{applied_turn}
 use Rattle.router.specs.Accept.{list_differs, router_refusal, accepted_of}
 use Rattle.places.specs.Place.{primary_of, record_at, set_event, count_refusal, count_at_place}
 use Rattle.wire.specs.declared.refusal.Refusal.{Refusal}
-use Rattle.wire.specs.declared.refusal.Refusal.TheVariants.{UnknownVrid}
-use Rattle.wire.specs.Refusal.{refusal_number, room_needed}
+use Rattle.wire.specs.Refusal.{refusal_number}
 use Rattle.wire.proofs.Refusals.{nonzero, no_room}
 use Rattle.events.specs.Lists.{list_at, their_list, lists_match}
 use Rattle.events.specs.Result.{Leaves, router_place, acted_of}
@@ -84,20 +83,7 @@ module _ (words lists packet : List ℕ) (p : ℕ) (f : Fields) (room : List ℕ
       → acted_of words lists p (accepted_at words p f) 0 room ≡ heard_at words lists p packet f room
   heard_accepted e = rw e
 
-  pub sought_there : router_place words f.vrid ≡ Some p
-      → heard_at words lists p packet f room ≡ sought_at (router_place words f.vrid) words lists packet f room
-  sought_there e = rw e
-
 module _ (words lists packet room : List ℕ) where
-  pub sought_nowhere : (f : Fields) (after : List ℕ) → router_place words f.vrid ≡ None → after ≡ count_refusal words 9
-      → Leaves (sought_at (router_place words f.vrid) words lists packet f room) (Err UnknownVrid) after room
-  sought_nowhere f after e w =
-      record {
-        answer_is = rw e;
-        words_are = rw (e, w);
-        room_is = rw e;
-      }
-
   pub heard_unfit : (reason : Refusal) (after : List ℕ) → judged_of packet ≡ Err (refusal_number reason)
       → after ≡ count_refusal words (refusal_number reason)
       → Leaves (heard_of words lists packet room) (Err reason) after room

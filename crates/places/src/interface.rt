@@ -6,6 +6,7 @@ ghost use Rattle.places.specs.Place.{primary_of, refusal_count, count_refusal};
 use wire::refusal::Refusal;
 
 // The primary address.
+#[tactic(auto, unfolding(crate::specs::Place::primary_of))]
 pub fn primary(words: &[u32; 4096]) -> u32
     ensures { result ≡ primary_of words.now }
 {
@@ -13,6 +14,7 @@ pub fn primary(words: &[u32; 4096]) -> u32
 }
 
 // How often a refusal of 1 to 9 was given.
+#[tactic(auto, unfolding(crate::specs::Place::refusal_count))]
 pub fn refusal_count(words: &[u32; 4096], number: usize) -> u32
     requires { number ≤ 9 }
     ensures { result ≡ refusal_count words.now number }
@@ -21,10 +23,11 @@ pub fn refusal_count(words: &[u32; 4096], number: usize) -> u32
 }
 
 // The table with a refusal of 1 to 9 counted.
+#[tactic(auto, unfolding(crate::specs::Place::count_refusal))]
 pub fn count_refusal(words: &mut [u32; 4096], refusal: Refusal)
     requires { refusal_number refusal ≤ 9 }
     ensures { words.new ≡ count_refusal words.old (refusal_number refusal) }
 {
     let number = refusal.number() as usize;
-    words[number] = std::num::wrapping_add_u32(words[number], 1);
+    words[number] = words[number].wrapping_add(1);
 }

@@ -1,21 +1,20 @@
 // How a router's record lies in 16 words.
-ghost use Rattle.std.specs.Prelude.{◌≡◌, ◌%◌, length};
+ghost use Rattle.std.specs.Prelude.{◌≡◌, ◌≤◌, length};
 ghost use Rattle.places.specs.Layout.{flag_of, state_of, counts_in, decode_of, encode_of};
 
 use states::record::{Counts, Router, State};
 use states::step::state_number;
 
 // The state that a word stands for: 0 is Initialize, 1 Backup, and every other Master.
+#[tactic(auto, unfolding(crate::specs::Layout::state_of))]
 pub fn state_of(word: u32) -> State
     ensures { result ≡ state_of word }
 {
-    if word == 0 {
-        return State::Initialize;
+    match word {
+        0 => State::Initialize,
+        1 => State::Backup,
+        _ => State::Master,
     }
-    if word == 1 {
-        return State::Backup;
-    }
-    State::Master
 }
 
 fn decode_counts(s: &[u32]) -> Counts
@@ -33,9 +32,11 @@ fn decode_counts(s: &[u32]) -> Counts
 }
 
 // The record that 16 words hold: every word decodes to something.
+#[tactic(auto, unfolding(crate::specs::Layout::decode_of))]
 pub fn decode(s: &[u32]) -> Router
     requires { length s.now ≡ 16 }
-    ensures { result ≡ decode_of s.now }
+    ensures record { result ≡ decode_of s.now }
+    ensures count { result.count ≤ 16 }
 {
     Router {
         vrid: (s[0] % 256) as u8,
@@ -51,6 +52,7 @@ pub fn decode(s: &[u32]) -> Router
 }
 
 // The 16 words of a record.
+#[tactic(auto, unfolding(crate::specs::Layout::encode_of))]
 pub fn encode(r: Router) -> [u32; 16]
     ensures { result ≡ encode_of r }
 {

@@ -44,8 +44,10 @@ impl Place {
 }
 
 // The record at a place.
+#[tactic(auto, unfolding(crate::specs::Place::record_at))]
 pub fn load(words: &[u32; 4096], place: Place) -> Router
-    ensures { result ≡ record_at words.now place }
+    ensures record { result ≡ record_at words.now place }
+    ensures count { result.count ≤ 16 }
 {
     let start = place.start();
     decode(&words[start..start + 16])
@@ -87,6 +89,7 @@ pub fn store_event(words: &mut [u32; 4096], place: Place, r: Router)
 }
 
 // Whether the router at a place is in Initialize.
+#[tactic(auto, using(crate::proofs::Events::initialize_word))]
 pub fn in_initialize(words: &[u32; 4096], place: Place) -> bool
     ensures { result ≡ (state_number (record_at words.now place).state == 0) }
 {
@@ -94,6 +97,7 @@ pub fn in_initialize(words: &[u32; 4096], place: Place) -> bool
 }
 
 // What remains of the timer of the router at a place.
+#[tactic(auto, using(crate::proofs::Events::timer_is))]
 pub fn timer(words: &[u32; 4096], place: Place) -> u32
     ensures { result ≡ (record_at words.now place).timer }
 {
@@ -101,6 +105,7 @@ pub fn timer(words: &[u32; 4096], place: Place) -> u32
 }
 
 // The table with another timer for the router at a place.
+#[tactic(auto, using(crate::proofs::Events::timer_event))]
 pub fn store_timer(words: &mut [u32; 4096], place: Place, ticks: u32)
     ensures { words.new ≡ set_event words.old place
         (with_state (record_at words.old place) (record_at words.old place).state ticks) }
@@ -109,13 +114,14 @@ pub fn store_timer(words: &mut [u32; 4096], place: Place, ticks: u32)
 }
 
 // The table with a refusal of 10 to 13 counted for the router at a place.
+#[tactic(auto, unfolding(crate::specs::Place::count_at_place))]
 pub fn count_at_place(words: &mut [u32; 4096], place: Place, refusal: Refusal)
     requires { (10 ≤ refusal_number refusal) × (refusal_number refusal ≤ 13) }
     ensures { words.new ≡ count_at_place words.old place (refusal_number refusal) }
 {
     let number = refusal.number() as usize;
     let at = place.start() + (number - 1);
-    words[at] = std::num::wrapping_add_u32(words[at], 1);
+    words[at] = words[at].wrapping_add(1);
 }
 
 // The lowest place whose first word is `vrid`: the place of a virtual router, or for 0 the lowest free one.

@@ -3,20 +3,16 @@
 use mathlib.Core.Path.{◌≡◌, refl, sym, ap, ◌∙◌}
 use mathlib.Core.List.{List, [], ◌∷◌, ◌++◌}
 use mathlib.Core.Bool.{Bool, true, false}
-use Prim.Native.Nat.{ℕ}
 use native.Mathlib.Omega.{arith}
 use lib.ListN.{length}
-use Rattle.std.specs.Prelude.{Result, Ok, Err, is_ok}
-use Rattle.std.proofs.lemmas.Bool.{true≢false}
+use Rattle.std.specs.Prelude.{Ok, Err}
 use Rattle.std.proofs.lemmas.Result.{IfOk-at_ok}
-use Rattle.judging.specs.declared.Fields.{Fields}
-use Rattle.wire.specs.declared.refusal.Refusal.{Refusal}
-use Rattle.wire.specs.Refusal.{refusal_number, numbered}
+use Rattle.wire.specs.Refusal.{refusal_number}
 use Rattle.wire.proofs.Refusals.{same_number, same_answer}
 use Rattle.judging.proofs.Accepted.{refused_most}
 use Rattle.wire.specs.Check.{Check, first_refusal, Passes}
 use Rattle.writing.specs.Frame.{message_of}
-use Rattle.judging.specs.Judging.{packet_checks, refusal_of, judged_of}
+use Rattle.judging.specs.Judging.{packet_checks, refusal_of}
 use Rattle.writing.specs.Writing.{advertisement_refusal}
 use Rattle.round_trip.specs.Theorems.{AcceptedExactly, FirstThatFails, RoundTrip, OneJudgement, OneWriting}
 use Rattle.wire.proofs.Checks.{passed, all_pass}
@@ -48,18 +44,14 @@ pub first_that_fails : FirstThatFails
 unfolding refusal_of
 first_that_fails packet n = failing (packet_checks packet) n
 
-numbers_judged : (packet : List ℕ) (a b : Result Fields Refusal) → numbered a ≡ judged_of packet → numbered b ≡ judged_of packet
-    → a ≡ b
-numbers_judged packet (Ok f) (Ok g) x y = cc
-numbers_judged packet (Ok f) (Err q) x y = absurd (true≢false (ap is_ok (x ∙ sym y)))
-numbers_judged packet (Err p) (Ok g) x y = absurd (true≢false (ap is_ok (y ∙ sym x)))
-numbers_judged packet (Err p) (Err q) x y =
+pub one_judgement : OneJudgement
+one_judgement packet (Ok f) (Ok g) x y = grind arith
+one_judgement packet (Ok f) (Err q) x y = grind arith
+one_judgement packet (Err p) (Ok g) x y = grind arith
+one_judgement packet (Err p) (Err q) x y =
     let n : refusal_number p ≡ refusal_number q = cc in
     let most = refused_most packet (refusal_number p) x in
     ap Err (same_number p q n (λ e. omega arith))
-
-pub one_judgement : OneJudgement
-one_judgement = numbers_judged
 
 pub one_writing : OneWriting
 one_writing refusal need frame before a b after other x y = (

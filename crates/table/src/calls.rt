@@ -114,14 +114,12 @@ pub fn question(words: &[u32; 4096], vrid: u8) -> Result<Router, Refusal>
 }
 
 // How often a refusal of 1 to 9 was given; 0 for any other number.
+#[tactic(auto, unfolding(events::specs::Events::interface_count))]
 pub fn interface_count(words: &[u32; 4096], number: usize) -> u32
     ensures { result ≡ interface_count words.now number }
 {
-    if number == 0 {
-        return 0;
+    match number {
+        1..=9 => refusal_count(words, number),
+        _ => 0,
     }
-    if 9 < number {
-        return 0;
-    }
-    refusal_count(words, number)
 }

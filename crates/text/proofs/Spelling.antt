@@ -1,15 +1,17 @@
 -- Laws of the digits that `text` puts: a number in decimal by its last digit, bytes in hexadecimal by the last byte.
 -- Assumes nothing.
 use Prim.Native.Nat.{ℕ, zero, suc, ◌+◌, ◌≤◌, ◌<◌, ◌/◌, ◌%◌}
-use mathlib.Core.Path.{◌≡◌, refl, ap, ◌∙◌}
+use mathlib.Core.Path.{◌≡◌, sym, ap, ◌∙◌}
 use mathlib.Core.List.{List, [], ◌∷◌, ◌++◌}
 use mathlib.Core.Logic.{dite}
 use native.Mathlib.Decide.{dec_lt}
 use native.Mathlib.Omega.{arith}
 use lib.ListN.{length, take, get_or}
-use lib.Seq.{take-suc}
 use borrow.Author.Tests.{lt-ltb, le-ltb}
-use Rattle.text.specs.Digits.{digits, decimal_of, hex_byte, hex_of}
+use Rattle.std.specs.Int.{to_be_bytes}
+use Rattle.std.proofs.Common.{w32}
+use Rattle.std.proofs.lemmas.List.{flat_map_more, take_more}
+use Rattle.text.specs.Digits.{digits, decimal_of, dotted_of, address_of, hex_byte, hex_of}
 
 -- any bound that is large enough gives the same digits
 digits_enough : (most more n : ℕ) → n < most → n < more → digits most n ≡ digits more n
@@ -35,13 +37,18 @@ decimal_more n h =
     let rest = digits_enough n (suc (n / 10)) (n / 10) (omega arith) (omega arith) in
     rw (le-ltb n 10 h) (ap (λ (l : List ℕ). l ++ ((48 + n % 10) ∷ [])) rest)
 
-hex_append : (x y : List ℕ) → hex_of (x ++ y) ≡ hex_of x ++ hex_of y
-unfolding hex_of
-hex_append [] y = refl
-hex_append (b ∷ x) y = ap (λ (l : List ℕ). hex_byte b ++ l) (hex_append x y)
-
 -- one byte more
 pub hex_more : (bytes : List ℕ) (k : ℕ) → k < length bytes
-    → hex_of (take (suc k) bytes) ≡ hex_of (take k bytes) ++ hex_byte (get_or bytes k 0)
-unfolding hex_of
-hex_more bytes k h = ap hex_of (take-suc bytes k 0 h) ∙ hex_append (take k bytes) (get_or bytes k 0 ∷ [])
+    → hex_of (take (k + 1) bytes) ≡ hex_of (take k bytes) ++ hex_byte (get_or bytes k 0)
+hex_more bytes k h = ap hex_of (take_more bytes k 0 h) ∙ sym (flat_map_more hex_byte [] (take k bytes) (get_or bytes k 0))
+
+-- the four bytes of an address
+pub address_bytes : (n a b c d : ℕ) (bytes : List ℕ) → n < 4294967296 → bytes ≡ to_be_bytes w32 n
+    → a ≡ get_or bytes 0 0 → b ≡ get_or bytes 1 0 → c ≡ get_or bytes 2 0 → d ≡ get_or bytes 3 0
+    → address_of n ≡ dotted_of a b c d
+address_bytes n a b c d bytes small e p q r s =
+    let first : a ≡ n / 16777216 = omega (arith, rw e at p) in
+    let second : b ≡ n / 65536 % 256 = rw e at q in
+    let third : c ≡ n / 256 % 256 = rw e at r in
+    let fourth : d ≡ n % 256 = rw e at s in
+    rw (first, second, third, fourth)

@@ -20,5 +20,4 @@ source_address = refl
 
 -- 0fa5
 two_bytes : hex_of (15 ∷ 165 ∷ []) ≡ 48 ∷ 102 ∷ 97 ∷ 53 ∷ []
-unfolding hex_of
 two_bytes = refl

@@ -1,5 +1,5 @@
 -- Numbers, addresses and bytes as text, in ASCII. Assumes nothing.
-use Rattle.std.specs.Prelude.{ℕ, zero, suc, ◌+◌, ◌/◌, ◌%◌, cond, List, [], ◌∷◌, ◌++◌, eqb, ltb, length}
+use Rattle.std.specs.Prelude.{ℕ, zero, suc, ◌+◌, ◌/◌, ◌%◌, cond, List, [], ◌∷◌, ◌++◌, eqb, ltb, length, flat_map}
 
 -- the decimal digits of n, the greatest first; the other number bounds how many there are
 unfoldable pub digits : ℕ → ℕ → List ℕ
@@ -27,9 +27,8 @@ abbrev pub hex_byte : ℕ → List ℕ
 hex_byte b = hex_digit (b / 16) ∷ (hex_digit (b % 16) ∷ [])
 
 -- bytes in hexadecimal
-unfoldable pub hex_of : List ℕ → List ℕ
-hex_of [] = []
-hex_of (b ∷ bytes) = hex_byte b ++ hex_of bytes
+abbrev pub hex_of : List ℕ → List ℕ
+hex_of bytes = flat_map hex_byte bytes
 
 -- bytes in hexadecimal, or a dash where there are none
 abbrev pub hex_or_dash : List ℕ → List ℕ

@@ -59,7 +59,3 @@ two_passed false t e = (refl, e)
 
 pub three_passed : (s t u : Bool) → (s || t || u) ≡ false → (s ≡ false) × (t ≡ false) × (u ≡ false)
 three_passed s t u e = let a = two_passed (s || t) u e in let b = two_passed s t a.0 in (b.0, b.1, a.1)
-
-pub fails_unless : (t : Bool) → ¬ (t ≡ false) → t ≡ true
-fails_unless true n = refl
-fails_unless false n = absurd (n refl)

@@ -60,7 +60,7 @@ abbrev pub room_answered : {T : Type 0} → Result T Refusal → ℕ
 room_answered (Ok value) = 0
 room_answered (Err refusal) = room_needed refusal
 
--- "A refusal answers its number, 22 also with the room needed": what an answer tells, by its refusal, 0 for none
-pub record Tells (refusal need : ℕ) {T : Type 0} (answer : Result T Refusal) : Type 0 where
+-- "A refusal answers its number, 22 also with the room needed": by which refusal, 0 for none
+pub record RefusedBy (refusal need : ℕ) {T : Type 0} (answer : Result T Refusal) : Type 0 where
   pub number_is : number_answered answer ≡ refusal
   pub needed_is : room_answered answer ≡ cond (eqb refusal 22) need 0

@@ -1,52 +1,66 @@
-// The line of each answer, up to its end.
-use judging::{Fields, Judged, judge};
-use records::page::{
-    Page, empty, with_address, with_byte, with_hex, with_number, with_numbers, with_text,
-};
-use rooms::Written;
+// The line of each answer.
+use crate::case::Case;
+use judging::{Fields, judge};
+use records::page::Page;
+use wire::refusal::Refusal;
+use writing::arp::write_arp;
+use writing::frame::write_advertisement;
 
-// The VRID, the priority, the address count, the authentication type and the interval of an accepted packet.
-fn numbers(fields: Fields) -> [u32; 5] {
-    [
-        fields.vrid as u32,
-        fields.priority as u32,
-        fields.count as u32,
-        fields.authentication as u32,
-        fields.interval as u32,
-    ]
+// Puts what an accepted packet says: its source address, the VRID, the priority, the address count, the authentication type
+// and the interval, and where its address list stands.
+fn put_fields(page: &mut Page, fields: Fields) {
+    page.text(b"0 ");
+    page.address(fields.source);
+    page.next(fields.vrid);
+    page.next(fields.priority);
+    page.next(fields.count);
+    page.next(fields.authentication);
+    page.next(fields.interval);
+    page.next(fields.list as u64);
 }
 
-// What an accepted packet says: its source address, its numbers, and where its address list stands.
-fn accepted(fields: Fields) -> Page {
-    let source = with_address(with_text(empty(), b"0 "), fields.source);
-    let all = with_numbers(source, &numbers(fields));
-    with_number(with_byte(all, b' '), fields.list as u64)
-}
-
-// What a packet is found to be.
-pub fn judged(packet: &[u8]) -> Page {
+// Puts what a packet is found to be.
+fn put_judged(page: &mut Page, packet: &[u8]) {
     match judge(packet) {
-        Judged::Accepted(fields) => accepted(fields),
-        Judged::Refused(number) => with_number(empty(), number as u64),
+        Ok(fields) => put_fields(page, fields),
+        Err(refusal) => page.number(refusal.number()),
     }
 }
 
-// The number that a writing is answered by, and the room needed.
-fn answer(number: u32, needed: usize) -> Page {
-    let first = with_number(empty(), number as u64);
-    with_number(with_byte(first, b' '), needed as u64)
+// Puts how a writing ended, and its room.
+fn put_written(page: &mut Page, written: Result<usize, Refusal>, room: &[u8]) {
+    page.outcome(written);
+    page.byte(b' ');
+    page.hex(room);
 }
 
-// How a writing ended.
-fn ended(written: Written) -> Page {
-    match written {
-        Written::Frame(_) => answer(0, 0),
-        Written::Refused(number) => answer(number, 0),
-        Written::Short(needed) => answer(22, needed),
+// The line of a case.
+pub fn answered(case: Case) -> Page {
+    let mut page = Page::new();
+    match case {
+        Case::Judge { packet } => put_judged(&mut page, &packet),
+        Case::Advertisement {
+            vrid,
+            priority,
+            interval,
+            primary,
+            addresses,
+            mut room,
+        } => {
+            let written = write_advertisement(
+                vrid, priority, interval, primary, &addresses, &mut room,
+            );
+            put_written(&mut page, written, &room);
+        }
+        Case::Arp {
+            vrid,
+            address,
+            mut room,
+        } => {
+            let written = write_arp(vrid, address, &mut room);
+            put_written(&mut page, written, &room);
+        }
     }
-}
-
-// How a writing ended, and its room.
-pub fn written_in(room: &[u8], written: Written) -> Page {
-    with_hex(with_byte(ended(written), b' '), room)
+    page.byte(b'\n');
+    page
 }

@@ -3,7 +3,7 @@ use Rattle.std.specs.Prelude.{ℕ, ◌+◌, ◌%◌, ◌≡◌, List, [], ◌∷
 use Rattle.std.specs.Prelude.{Result, IfOk}
 use Rattle.wire.specs.declared.refusal.Refusal.{Refusal}
 use Rattle.wire.specs.Check.{Check, first_refusal}
-use Rattle.wire.specs.Refusal.{Tells}
+use Rattle.wire.specs.Refusal.{RefusedBy}
 use Rattle.writing.specs.Frame.{frame_of}
 use Rattle.writing.specs.Arp.{arp_of}
 
@@ -41,7 +41,7 @@ room_after refusal frame room = cond (eqb refusal 0) (over frame room) room
 
 -- the promise of writing a frame into a room, by its refusal: the answer, and the whole room
 pub record Wrote (refusal need : ℕ) (frame before : List ℕ) (answer : Result ℕ Refusal) (after : List ℕ) : Type 0 where
-  pub refusal_is : Tells refusal need answer
+  pub refusal_is : RefusedBy refusal need answer
   pub length_is : IfOk answer (λ length. length ≡ need)
   pub room_is : after ≡ room_after refusal frame before
 

@@ -1,6 +1,6 @@
 // The gratuitous ARP frame.
 ghost use Rattle.std.specs.Prelude.{◌≡◌, ◌≤◌, length};
-ghost use Rattle.wire.specs.Refusal.{Tells};
+ghost use Rattle.wire.specs.Refusal.{RefusedBy};
 ghost use Rattle.writing.specs.Arp.{arp_start, arp_end, arp_of};
 ghost use Rattle.writing.specs.Writing.{over, arp_refusal, ArpWritten};
 
@@ -41,7 +41,7 @@ pub fn put_arp(vrid: u8, address: u32, room: &mut [u8])
 // The first of refusals 14 and 22 of writing one ARP frame that holds.
 #[tactic(auto, unfolding(crate::specs::Writing::arp_refusal))]
 fn arp_refusal(vrid: u8, room: usize) -> Result<(), Refusal>
-    ensures { Tells (arp_refusal vrid room) 42 result }
+    ensures { RefusedBy (arp_refusal vrid room) 42 result }
 {
     if vrid == 0 {
         return Err(Refusal::VridZero);

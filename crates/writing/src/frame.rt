@@ -1,6 +1,6 @@
 // The advertisement frame: Ethernet, IPv4 header and VRRP message.
 ghost use Rattle.std.specs.Prelude.{◌≡◌, ◌+◌, ◌≤◌, ◌%◌, ◌/◌, ◌++◌, length};
-ghost use Rattle.wire.specs.Refusal.{Tells};
+ghost use Rattle.wire.specs.Refusal.{RefusedBy};
 ghost use Rattle.writing.specs.Frame.{message_end, message_checksum, message_of, header_checksum, header_of, ethernet_of, frame_of};
 ghost use Rattle.writing.specs.Writing.{over, advertisement_refusal, AdvertisementWritten};
 
@@ -133,7 +133,7 @@ fn advertisement_refusal(
     addresses: &[u8],
     room: usize,
 ) -> Result<(), Refusal>
-    ensures { Tells (advertisement_refusal vrid interval addresses.now room)
+    ensures { RefusedBy (advertisement_refusal vrid interval addresses.now room)
         (50 + length addresses.now) result }
 {
     if vrid == 0 {

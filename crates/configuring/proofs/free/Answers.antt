@@ -39,12 +39,12 @@ returns-then-ne c =
     let a = c.args in
     let found : c.seek.result ≡ Some c.in_ok-place.place = grind arith in
     remove_busy a.words.now a.vrid c.in_ok-place.place (sym c.seek.ensures ∙ found)
-    (λ z. busy c.load.result.state c.if-ne.ensures (ap (λ (r : Router). state_number r.state) c.load.ensures ∙ z))
+    (λ z. busy c.load.result.state c.if-ne.ensures (ap (λ (r : Router). state_number r.state) c.load.ensures.record ∙ z))
 
 pub returns : goal.returns
 returns c =
     let a = c.args in
     let found : c.seek.result ≡ Some c.in_ok-place.place = grind arith in
     remove_done a.words.now a.vrid c.in_ok-place.place _ (sym c.seek.ensures ∙ found)
-    (ap (λ (r : Router). state_number r.state) (sym c.load.ensures) ∙ idle c.load.result.state c.if-ne.ensures)
+    (ap (λ (r : Router). state_number r.state) (sym c.load.ensures.record) ∙ idle c.load.result.state c.if-ne.ensures)
     (c.store.ensures ∙ rw c.new_router.ensures)

@@ -29,6 +29,6 @@ returns c =
     let not_idle = sym c.in_initialize.ensures ∙ c.if-in_initialize.false in
     leaves_equal _ _ _ _ _
     (turned_step a.words.now a.lists.now a.place Timer _ a.out.now _
-    (c.turn-changes.ensures ∙ rw (c.primary.ensures, c.load.ensures))
+    (c.turn-changes.ensures ∙ rw (c.primary.ensures, c.load.ensures.record))
     ∙ rw timer (clocked_fires a.words.now a.lists.now a.place a.ticks a.out.now not_idle (omega arith)))
     c.act.ensures

@@ -1,10 +1,7 @@
--- The first k bytes are appended.
-use Rattle.std.proofs.Common.{length, take, ◌-◌, ◌≤◌}
+-- The bytes so far are appended.
+use Rattle.std.proofs.Common.{take}
 use Rattle.text.specs.Appended.{Appended}
 use Rattle.text.proofs.put.Given as goal
 
-abbrev pub invariant-loop-k : goal.invariant-loop-k
-invariant-loop-k l = (l.k ≤ length l.bytes) × Appended l.fn.out l.at (take l.k l.bytes) l.out l.next
-
-abbrev pub decreases-loop-k : goal.decreases-loop-k
-decreases-loop-k l = length l.bytes - l.k
+abbrev pub invariant-loop-byte : goal.invariant-loop-byte
+invariant-loop-byte l = Appended l.fn.out l.at (take l.byte-index l.bytes) l.out l.next
