@@ -3,54 +3,58 @@
 
 ghost use Rattle.std.specs.Prelude.{◌≡◌, [], ◌≤◌, ◌+◌, Some, false, length, set};
 ghost use Rattle.script.specs.Record.{station_in, after_record};
-ghost use Rattle.script.specs.Progress.{segment_of, segment_in, read_in, new_number};
+ghost use Rattle.script.specs.Progress.{segment_of, read_in, new_number};
 ghost use Rattle.script.specs.Kinds.{body_length};
 
-use lent::{deliver_in, pass_all_in, shutdown_in, startup_in};
 use script::kinds::Kind;
-use script::progress::{Progress, Reading};
+use script::progress::Reading;
 use script::record::Record;
 use station::making::new_station;
 use station::station::Station;
+use stations::list;
 
-// The stations with the one that a body describes at the first number that is not used; past the end nothing is done.
-fn station_record(stations: [Station; 16], reading: Reading, body: &[u8]) -> [Station; 16]
+// The station that a body describes stands at the first number that is not used; past the end nothing is done.
+fn add_station(stations: &mut [Station; 16], reading: Reading, body: &[u8])
     requires { 6 ≤ length body.now }
-    ensures { result ≡ set stations reading.used (station_in (segment_of [] reading) body.now) }
+    ensures { stations.new ≡ set stations.old reading.used (station_in (segment_of [] reading) body.now) }
 {
-    let primary = u32::from_be_bytes([body[2], body[3], body[4], body[5]]);
     let made = new_station(
         reading.vrid,
         body[0],
         reading.interval,
         body[1] == 1,
-        primary,
+        u32::from_be_bytes([body[2], body[3], body[4], body[5]]),
         &reading.address,
     );
-    let mut after = stations;
     if reading.used < 16 {
-        after[reading.used] = made.station;
+        stations[reading.used] = made.station;
     }
-    after
 }
 
-// The stations after a record that is taken. No script sees the answer of a step.
-pub fn stations_after(progress: &Progress, taken: Record) -> [Station; 16]
-    ensures { result ≡ (after_record (Some taken.entry.kind) (segment_in progress.now)
+// Does to the stations what a record says that is taken. No script sees the answer of a step.
+#[tactic(auto, unfolding(passing::specs::Passing::fresh_room))]
+pub fn step_stations(stations: &mut [Station; 16], reading: Reading, taken: Record)
+    ensures { stations.new ≡ (after_record (Some taken.entry.kind) (segment_of stations.old reading)
         taken.entry.body.now).stations }
 {
-    let stations = progress.stations;
     let body = taken.body;
+    let mut out = [0; 786];
     match taken.kind {
-        Kind::NewSegment => stations,
-        Kind::NewStation => station_record(stations, progress.reading, body),
-        Kind::Startup => startup_in(stations, body[0] as usize).stations,
-        Kind::Shutdown => shutdown_in(stations, body[0] as usize).stations,
+        Kind::NewSegment => {}
+        Kind::NewStation => add_station(stations, reading, body),
+        Kind::Startup => {
+            let _ = list::startup(stations, body[0] as usize, &mut out);
+        }
+        Kind::Shutdown => {
+            let _ = list::shutdown(stations, body[0] as usize, &mut out);
+        }
         Kind::Clock => {
             let ticks = u16::from_be_bytes([body[0], body[1]]);
-            pass_all_in(stations, progress.reading.used, ticks as u32)
+            list::pass_first(stations, reading.used, u32::from(ticks))
         }
-        Kind::Deliver => deliver_in(stations, body[0] as usize, body[1] as usize).stations,
+        Kind::Deliver => {
+            let _ = list::deliver(stations, body[0] as usize, body[1] as usize, &mut out);
+        }
     }
 }
 

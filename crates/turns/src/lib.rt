@@ -10,7 +10,7 @@ use printing::{put_printed, put_refused};
 use refusing::taken_record;
 use script::progress::{Progress, Reading};
 use script::record::Record;
-use taking::{reading_after, stations_after};
+use taking::{reading_after, step_stations};
 use wire::refusal::Refusal;
 
 #[derive(Clone, Copy)]
@@ -64,8 +64,7 @@ pub fn advance(progress: &mut Progress, turn: Turn)
     ensures { progress.new ≡ progress_left turn.entry progress.old }
 {
     if let Ok(Some(taken)) = turn.found {
-        let after = stations_after(progress, taken);
-        progress.stations = after;
+        step_stations(&mut progress.stations, progress.reading, taken);
     }
     progress.reading = turn.reading;
 }
