@@ -12,7 +12,7 @@ use Rattle.sums.proofs.Theorems.{checksum_sums}
 use Rattle.std.specs.Prelude.{Ok}
 use Rattle.wire.specs.Check.{first_refusal, Passes}
 use Rattle.wire.specs.Reading.{number_at}
-use Rattle.headers.specs.Packet.{header_length, total_length, cause_of, header_sum_wrong, not_ours, header_checks, payload}
+use Rattle.headers.specs.Packet.{header_length, total_length, causes, cause_of, header_sum_wrong, not_ours, header_checks, payload}
 use Rattle.judging.specs.Message.{message_length, message_checks}
 use Rattle.judging.specs.Judging.{refusal_of, fields_in, fields_of, judged_of}
 use Rattle.writing.specs.Frame.{message_start, message_end, message_checksum, message_of}
@@ -20,7 +20,6 @@ use Rattle.writing.specs.Frame.{header_start, header_end, header_checksum, heade
 use Rattle.writing.specs.Writing.{over}
 use Rattle.wire.proofs.Tested.{tests}
 use Rattle.wire.proofs.Checks.{all_pass}
-use Rattle.headers.proofs.Readable.{cause_is}
 use Rattle.judging.proofs.Messages.{message_tests}
 use Rattle.writing.proofs.Checksums.{number_of_bytes, end_bytes}
 use Rattle.judging.proofs.Passing.{message_decides, accepts}
@@ -73,8 +72,8 @@ module _ (vrid priority interval primary room : ℕ) (addresses : List ℕ) (v :
       (end_bytes addresses b)
 
   no_cause : cause_of packet ≡ 0
-  unfolding packet_of header_of
-  no_cause = sym (cause_is packet (omega (tests, packet_length, total_is)))
+  unfolding packet_of header_of cause_of
+  no_cause = all_pass (causes packet) (omega (tests, packet_length, total_is))
 
   header_passes : Passes (header_checks packet)
   unfolding packet_of header_of header_sum_wrong not_ours

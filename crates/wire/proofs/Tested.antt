@@ -46,9 +46,6 @@ none_passes false e = refl
 pub ruleset tests = (values, facts, worth_of, one_fails, none_passes, arith)
 
 -- tests that are made of several
-pub neither_fails : (s t : Bool) → s ≡ false → t ≡ false → (s || t) ≡ false
-neither_fails s t a b = rw (a, b)
-
 pub second_fails : (s t : Bool) → t ≡ true → (s || t) ≡ true
 second_fails true t e = refl
 second_fails false t e = e
@@ -56,6 +53,3 @@ second_fails false t e = e
 pub two_passed : (s t : Bool) → (s || t) ≡ false → (s ≡ false) × (t ≡ false)
 two_passed true t e = (e, cc)
 two_passed false t e = (refl, e)
-
-pub three_passed : (s t u : Bool) → (s || t || u) ≡ false → (s ≡ false) × (t ≡ false) × (u ≡ false)
-three_passed s t u e = let a = two_passed (s || t) u e in let b = two_passed s t a.0 in (b.0, b.1, a.1)
