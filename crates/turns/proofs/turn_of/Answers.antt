@@ -1,7 +1,9 @@
 -- `turns::turn_of` meets its contract.
 -- Assumes nothing.
 use mathlib.Core.Path.{refl}
+use Prim.Native.Nat.{◌≤◌}
 use native.Mathlib.Omega.{arith}
+use lib.ListN.{length}
 use Rattle.script.specs.Progress.{segment_in}
 use Rattle.turns.proofs.Turning.{number_fits, step_long, step_none, step_misplaced, turn_refused, turn_taken}
 use Rattle.turns.proofs.turn_of.Goals as goal
@@ -16,7 +18,7 @@ returns-then-script-gt65536 c =
 pub returns-then-at-script : goal.returns-then-at-script
 returns-then-at-script c =
     let a = c.args in
-    let fits = c.if-script-gt65536.false in
+    let fits : length a.script.now ≤ 65536 = omega arith in
     elim c.then-at-script.branch [
       | then-at-script-via-then-at-script w ↦
           rw (step_none a.script.now a.progress.now fits w.if-at-script.true)
@@ -35,11 +37,11 @@ pub returns-in-Ok : goal.returns-in-Ok
 returns-in-Ok c =
     let a = c.args in
     let found = c.in-Ok.ensures in
-    turn_taken a.script.now a.progress.now c.if-script-gt65536.false c.if-at-script.false c.if-reading-at.false
+    turn_taken a.script.now a.progress.now (omega arith) c.if-at-script.false c.if-reading-at.false
     c.in-Ok.taken _ found.refused found.taken.0 found.taken.1 c.reading_after.ensures
 
 pub returns-in-Err : goal.returns-in-Err
 returns-in-Err c =
     let a = c.args in
-    turn_refused a.script.now a.progress.now c.if-script-gt65536.false c.if-at-script.false c.if-reading-at.false
+    turn_refused a.script.now a.progress.now (omega arith) c.if-at-script.false c.if-reading-at.false
     c.in-Err.refusal c.in-Err.ensures.refused
