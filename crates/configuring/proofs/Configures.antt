@@ -55,7 +55,7 @@ module _ (words : List ℕ) (v priority interval : ℕ) (addresses : List ℕ) w
       let p = passed (configure_checks words v priority interval addresses) (omega arith) e in
       let t = not-false (is_found (place_of words 0)) p.1.1.1.1.1.0 in
       let s = sym (ap is_found f) ∙ t in
-      let z : ◌≡◌ {A = ℕ} 0 1 = cc in omega arith
+      cc
 
   pub configure_most : configure_refusal words v priority interval addresses ≡ 0 → length addresses ≤ 64
   unfolding configure_refusal address_bytes_wrong
@@ -89,4 +89,4 @@ module _ (words : List ℕ) (v : ℕ) where
       let p = passed (remove_checks words v) (omega arith) e in
       let t = not-false (is_found (router_place words v)) p.0 in
       let s = sym (ap is_found f) ∙ t in
-      let z : ◌≡◌ {A = ℕ} 0 1 = cc in omega arith
+      cc

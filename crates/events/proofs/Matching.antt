@@ -8,10 +8,6 @@ use lib.Dec.{eqb}
 use Rattle.std.specs.Cmp.Lexicographic.{pointwise}
 use Rattle.events.specs.Lists.{lists_match}
 
-pub and_false : (b : Bool) → (b && false) ≡ false
-and_false true = refl
-and_false false = refl
-
 -- `==` of slices is what the rules ask of two lists
 pub compared : (a b : List ℕ) → pointwise eqb a b ≡ lists_match a b
 unfolding lists_match

@@ -15,7 +15,7 @@ use Rattle.events.specs.Result.{Answered, Result, Leaves, router_place}
 use Rattle.events.specs.Events.{clocked_at, clocked_of}
 
 sought_test : (t : Bool) (words : List ℕ) (v p : ℕ) → cond t None (place_of words v) ≡ Some p → place_of words v ≡ Some p
-sought_test true words v p e = absurd (let z : ◌≡◌ {A = ℕ} 0 1 = cc in omega arith)
+sought_test true words v p e = absurd cc
 sought_test false words v p e = e
 
 -- a virtual router's place is one of the 255
@@ -25,7 +25,7 @@ sought_below words v p e = (found words v p (sought_test (eqb v 0) words v p e))
 
 -- its first word is its number, which is not 0
 sought_zero_test : (t : Bool) (words : List ℕ) (v p : ℕ) → eqb v 0 ≡ t → cond t None (place_of words v) ≡ Some p → v ≡ 0 → ⊥
-sought_zero_test true words v p s e z = let y : ◌≡◌ {A = ℕ} 0 1 = cc in omega arith
+sought_zero_test true words v p s e z = cc
 sought_zero_test false words v p s e z = eqb-false v 0 s z
 
 pub sought_word : (words : List ℕ) (v p : ℕ) → router_place words v ≡ Some p → (p < 255) × (get_or words (base_of p) 0 ≡ v) × (v ≡ 0 → ⊥)

@@ -26,12 +26,12 @@ use Rattle.events.proofs.Sought.{leaves_equal}
 idle_in : (s : State) (primary : ℕ) (r : Router) (d : ℕ) → eqb (state_number s) 0 ≡ true
     → ticked_in s primary r d ≡ record { outcome = stays r; leftover = 0 }
 idle_in Initialize primary r d e = refl
-idle_in Backup primary r d e = absurd (let z : ◌≡◌ {A = ℕ} 0 1 = cc in omega arith)
-idle_in Master primary r d e = absurd (let z : ◌≡◌ {A = ℕ} 0 1 = cc in omega arith)
+idle_in Backup primary r d e = absurd cc
+idle_in Master primary r d e = absurd cc
 
 runs_in : (s : State) (primary : ℕ) (r : Router) (d : ℕ) → eqb (state_number s) 0 ≡ false
     → ticked_in s primary r d ≡ cond (ltb d r.timer) (falls r d) (fires primary r d)
-runs_in Initialize primary r d e = absurd (let z : ◌≡◌ {A = ℕ} 0 1 = cc in omega arith)
+runs_in Initialize primary r d e = absurd cc
 runs_in Backup primary r d e = refl
 runs_in Master primary r d e = refl
 

@@ -9,6 +9,7 @@ use native.Mathlib.Omega.{arith}
 use lib.Dec.{eqb, ltb}
 use lib.ListN.{length}
 use borrow.Author.Tests.{eqb-true, eqb-false, ne_eqb, le-ltb}
+use Rattle.std.proofs.lemmas.Bool.{cond_both}
 use Rattle.judging.specs.declared.Fields.{Fields}
 use Rattle.judging.specs.Judging.{Judged, judged_of}
 use Rattle.std.specs.Prelude.{Ok, Err, Some, None}
@@ -58,10 +59,6 @@ module _ (number : ℕ) (least : 1 ≤ number) (most : number ≤ 9) where
   other_adds words after small e n other =
       same_adds words after small e ∙ ap (λ (t : Bool). (of words + cond t 1 0) % 2 ^ 32) (sym (ne_eqb n number other))
 
-  either_adds : (t : Bool) (a b : Result) (words : List ℕ) → Adds words a → Adds words b → Adds words (cond t a b)
-  either_adds true a b words x y = x
-  either_adds false a b words x y = y
-
   -- a refusal of 1 to 9 is counted
   count_test : (t : Bool) (words : List ℕ) (n : ℕ) → length words ≡ 4096 → of words < 2 ^ 32 → n ≤ 9 → eqb n number ≡ t
       → of (count_refusal words n) ≡ (of words + cond t 1 0) % 2 ^ 32
@@ -92,9 +89,9 @@ module _ (number : ℕ) (least : 1 ≤ number) (most : number ≤ 9) where
       → Adds words (acted_of words lists p o leftover room)
   unfolding acted_of
   acted_adds words lists p o leftover room small =
-      either_adds (ltb (length room) (need_of o.writes (4 * o.router.count))) _ _ words
-      (other_adds words words small refl 22 (λ z. omega arith))
-      (other_adds words _ small (beside_count p words _ (event_beside words p o.router) number most) 0 (λ z. omega arith))
+      cond_both (ltb (length room) (need_of o.writes (4 * o.router.count))) _ _ (Adds words)
+      (λ t. other_adds words words small refl 22 (λ z. omega arith))
+      (λ t. other_adds words _ small (beside_count p words _ (event_beside words p o.router) number most) 0 (λ z. omega arith))
 
   -- the refusals of a router are others
   heard_adds : (t : Bool) (words lists : List ℕ) (p : ℕ) (bytes : List ℕ) (f : Fields) (room : List ℕ)

@@ -1,13 +1,11 @@
 -- What holds of a table after every history: stated of any words, and kept by storing a record and by counting a refusal.
 -- Assumes nothing.
-use mathlib.Core.Path.{◌≡◌, refl, sym, ap, subst, ◌∙◌}
+use mathlib.Core.Path.{◌≡◌, sym, ap, subst, ◌∙◌}
 use mathlib.Core.Logic.{◌⊎◌, inl, inr}
 use mathlib.Core.List.{List}
-use mathlib.Core.Bool.{Bool, true, false}
 use Prim.Native.Nat.{ℕ, ◌+◌, ◌≤◌, ◌<◌}
-use lib.Dec.{eqb}
 use lib.ListN.{length, get_or, get_or-replicate}
-use borrow.Author.Tests.{eqb-true, eqb-false}
+use Rattle.std.proofs.lemmas.Bool.{cases_eq}
 use Rattle.states.specs.declared.record.Router.{Router}
 use Rattle.router.specs.Timed.{Timed}
 use Rattle.places.specs.Place.{base_of, record_at, set_record, count_refusal}
@@ -24,13 +22,6 @@ pub record Held (words : List ℕ) : Type 0 where
   pub long : length words ≡ 4096
   pub unique : Unique words
   pub sound : (p : ℕ) → p < 255 → Sound words p
-
-same_test : (t : Bool) (a b : ℕ) → eqb a b ≡ t → (a ≡ b) ⊎ (a ≡ b → ⊥)
-same_test true a b e = inl (eqb-true a b e)
-same_test false a b e = inr (eqb-false a b e)
-
-pub same_or_not : (a b : ℕ) → (a ≡ b) ⊎ (a ≡ b → ⊥)
-same_or_not a b = same_test (eqb a b) a b refl
 
 -- the words of a free place
 freed_word : (k : ℕ) → k < 16 → get_or (encode_of freed) k 0 ≡ 0
@@ -106,8 +97,8 @@ module _ (words : List ℕ) (held : Held words) (p : ℕ) (below : p < 255) (r :
   store_held =
       record {
         long = store_length words p r below held.long;
-        unique = λ a b u v n e. unique_test a b u v n e (same_or_not a p) (same_or_not b p);
-        sound = λ q u. sound_test q u (same_or_not q p);
+        unique = λ a b u v n e. unique_test a b u v n e (cases_eq a p) (cases_eq b p);
+        sound = λ q u. sound_test q u (cases_eq q p);
       }
 
 -- the router of a place in use changes
@@ -146,7 +137,7 @@ module _ (words after : List ℕ) (held : Held words) (p : ℕ) (below : p < 255
       record {
         long = changed.beside.long ∙ held.long;
         unique = λ a b u v n e. first a ∙ held.unique a b u v n (sym (first a) ∙ e ∙ first b);
-        sound = λ q u. changed_test q u (same_or_not q p);
+        sound = λ q u. changed_test q u (cases_eq q p);
       }
 
 -- counting a refusal of 1 to 9

@@ -8,6 +8,7 @@ use native.Mathlib.Omega.{arith}
 use lib.Dec.{eqb, ltb}
 use lib.ListN.{length, get_or}
 use borrow.Author.Tests.{eqb-true, eqb-false, ltb-false, not-false}
+use Rattle.std.proofs.lemmas.Bool.{cond_both}
 use Rattle.judging.specs.declared.Fields.{Fields}
 use Rattle.judging.specs.Judging.{Judged, judged_of}
 use Rattle.std.specs.Prelude.{Ok, Err, Some, None}
@@ -50,18 +51,14 @@ in_use words held v p e =
     let used : ¬ (get_or words (base_of p) 0 ≡ 0) = λ z. w.2 (sym w.1 ∙ z) in
     (w.0, used, ((held.sound p w.0).configured used).0)
 
-either_held : (t : Bool) (a b : Result) → Held a.words → Held b.words → Held (cond t a b).words
-either_held true a b h k = h
-either_held false a b h k = k
-
 acted_held : (words lists : List ℕ) → Held words → (p : ℕ) → p < 255 → ¬ (get_or words (base_of p) 0 ≡ 0)
     → (o : Outcome) (leftover : ℕ)
     (room : List ℕ) → Unchanged (record_at words p) o.router → Timed o.router
     → Held (acted_of words lists p o leftover room).words
 unfolding acted_of
 acted_held words lists held p below used o leftover room same timed =
-    either_held (ltb (length room) (need_of o.writes (4 * o.router.count))) _ _ held
-    (changed_held words _ held p below used o.router (event_changed words p o.router below held.long same) timed)
+    cond_both (ltb (length room) (need_of o.writes (4 * o.router.count))) _ _ (λ (x : Result). Held x.words) (λ t. held)
+    (λ t. changed_held words _ held p below used o.router (event_changed words p o.router below held.long same) timed)
 
 priority_most : (words : List ℕ) (p : ℕ) → (record_at words p).priority ≤ 255
 priority_most words p = omega (arith, (read_in_range words p).priority)
@@ -138,9 +135,9 @@ fresh_held : (f g : Found) (words : List ℕ) → Held words → (v priority int
     → place_of words v ≡ g → is_found f ≡ true → is_found g ≡ false → InRange (new_router v priority interval preempt n)
     → (1 ≤ interval) × (1 ≤ priority) × (1 ≤ n) × (n ≤ 16) → ¬ (v ≡ 0)
     → Held (set_record words (place_in f) (new_router v priority interval preempt n))
-fresh_held None g words held v priority interval preempt n a b c d range i some = absurd (let z : ◌≡◌ {A = ℕ} 0 1 = cc in omega arith)
+fresh_held None g words held v priority interval preempt n a b c d range i some = absurd cc
 fresh_held (Some q) (Some k) words held v priority interval preempt n a b c d range i some =
-    absurd (let z : ◌≡◌ {A = ℕ} 0 1 = cc in omega arith)
+    absurd cc
 fresh_held (Some q) None words held v priority interval preempt n a b c d range i some =
     let l = found words 0 q a in
     store_held words held q (omega (arith, l.below)) (new_router v priority interval preempt n) range refl (λ z. i)
@@ -167,7 +164,7 @@ configure_test true words held v priority interval preempt addresses a b c e =
 -- removing: the place gets no VRID
 free_held : (f : Found) (words : List ℕ) → Held words → (v : ℕ) → router_place words v ≡ f → is_found f ≡ true
     → Held (set_record words (place_in f) freed)
-free_held None words held v s e = absurd (let z : ◌≡◌ {A = ℕ} 0 1 = cc in omega arith)
+free_held None words held v s e = absurd cc
 free_held (Some p) words held v s e =
     store_held words held p (sought_word words v p s).0 freed
     (record { vrid = omega arith; priority = omega arith; interval = omega arith; count = omega arith })

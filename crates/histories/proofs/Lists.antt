@@ -2,12 +2,12 @@
 -- Assumes nothing.
 use mathlib.Core.Path.{◌≡◌, sym, subst}
 use mathlib.Core.List.{List, [], ◌∷◌, ◌++◌}
-use mathlib.Core.Bool.{Bool, true, false, cond}
 use Prim.Native.Nat.{ℕ, zero, suc, ◌+◌, ◌*◌, ◌<◌}
 use native.Mathlib.Omega.{arith}
 use lib.Dec.{eqb}
 use lib.ListN.{length, take, drop, replicate, length-replicate}
 use lib.Seq.{paste, get_or-drop}
+use Rattle.std.proofs.lemmas.Bool.{cond_both}
 use Rattle.sums.specs.Sum.{Bytes}
 use Rattle.sums.proofs.Bytes.{bytes_cons, bytes_append}
 use Rattle.places.specs.Place.{place_of}
@@ -57,15 +57,11 @@ set_bytes : (lists : List ℕ) (place : ℕ) (addresses : List ℕ) → Bytes li
 unfolding set_list
 set_bytes lists place addresses h k = bytes_paste lists (64 * place) addresses (length addresses) h k
 
-either_bytes : (t : Bool) (a b : List ℕ) → Bytes a → Bytes b → Bytes (cond t a b)
-either_bytes true a b h k = h
-either_bytes false a b h k = k
-
 call_bytes : (m : Memory) (call : Call) → Given call → Bytes m.lists → Bytes (called m call).lists
 call_bytes m (configure v priority interval preempt addresses) g h =
     let place = place_in (place_of m.words 0) in
-    either_bytes (eqb (configure_refusal m.words v priority interval addresses) 0) (set_list m.lists place addresses)
-    m.lists (set_bytes m.lists place addresses h g.3) h
+    cond_both (eqb (configure_refusal m.words v priority interval addresses) 0) (set_list m.lists place addresses)
+    m.lists Bytes (λ t. set_bytes m.lists place addresses h g.3) (λ t. h)
 call_bytes m (remove v) g h = h
 call_bytes m (startup v room) g h = h
 call_bytes m (shutdown v room) g h = h

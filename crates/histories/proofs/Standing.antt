@@ -9,6 +9,7 @@ use native.Mathlib.Omega.{arith}
 use lib.Dec.{eqb, ltb}
 use lib.ListN.{length, get_or}
 use borrow.Author.Tests.{ne_eqb, eqb-true, eqb-false, not-false}
+use Rattle.std.proofs.lemmas.Bool.{cases_eq}
 use Rattle.writing.specs.Writing.{address_bytes_wrong}
 use Rattle.wire.proofs.Checks.{passed}
 use Rattle.wire.proofs.Tested.{two_passed}
@@ -30,7 +31,7 @@ use Rattle.histories.specs.Standing.{Standing, removes, NotRemoved}
 use Rattle.histories.specs.Theorems.{ConfiguredStays}
 use Rattle.histories.proofs.Begun.{empty_held}
 use Rattle.histories.proofs.Does.{gone_by, call_does}
-use Rattle.histories.proofs.Held.{Held, same_or_not}
+use Rattle.histories.proofs.Held.{Held}
 use Rattle.histories.proofs.Histories.{call_held, history_held}
 use Rattle.histories.proofs.Stays.{Still, does_long, as_it_was, still}
 
@@ -40,7 +41,7 @@ only_test : (f : Found) (words : List ℕ) → Held words → (v p : ℕ) → p 
 unfolding router_place
 only_test None words held v p below w some e =
     absurd (missing words v (sym (ap (λ (t : Bool). cond t None (place_of words v)) (ne_eqb v 0 some)) ∙ e) p below w)
-only_test (Some q) words held v p below w some e = other (same_or_not q p)
+only_test (Some q) words held v p below w some e = other (cases_eq q p)
   where
     there : (q < 255) × (get_or words (base_of q) 0 ≡ v) × (v ≡ 0 → ⊥)
     there = sought_word words v q e
@@ -68,7 +69,7 @@ module _ (m : Memory) (held : Held m.words) (v p : ℕ) (at : router_place m.wor
   remove_test : (s t : Bool) (u : ℕ) → eqb u v ≡ s → eqb (remove_refusal m.words u) 0 ≡ t → (s && t) ≡ false
       → StillBy (remove u)
   remove_test false t u e f n = by (remove u) (eqb-false u v e)
-  remove_test true true u e f n = absurd (let z : ◌≡◌ {A = ℕ} 0 1 = cc in omega arith)
+  remove_test true true u e f n = absurd cc
   remove_test true false u e f n =
       let unchanged : (called m (remove u)).words ≡ m.words = rw f in
       record {

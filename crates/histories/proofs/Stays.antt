@@ -10,6 +10,7 @@ use lib.Dec.{eqb}
 use lib.ListN.{length, get_or}
 use lib.Seq.{length-paste}
 use borrow.Author.Tests.{ne_eqb}
+use Rattle.std.proofs.lemmas.Bool.{cases_eq}
 use Rattle.wire.proofs.Checks.{passed}
 use Rattle.states.specs.declared.record.Router.{Router}
 use Rattle.states.proofs.Kept.{Kept}
@@ -29,7 +30,7 @@ use Rattle.histories.specs.Theorems.{PrimaryStays}
 use Rattle.histories.proofs.Begun.{empty_held}
 use Rattle.histories.proofs.Changed.{Changed}
 use Rattle.histories.proofs.Does.{same, counts, changes, Does, moves, configures, frees, call_does}
-use Rattle.histories.proofs.Held.{Held, same_or_not}
+use Rattle.histories.proofs.Held.{Held}
 use Rattle.histories.proofs.Histories.{call_held}
 use Rattle.histories.proofs.Theorems.{list_other}
 
@@ -93,7 +94,7 @@ stored_test words q r v below long new old k (inr n) = ap (λ (x : ℕ). eqb x v
 
 -- a virtual router is found by its number
 found_test : (t : Bool) (words : List ℕ) (v p : ℕ) → cond t None (place_of words v) ≡ Some p → place_of words v ≡ Some p
-found_test true words v p e = absurd (let z : ◌≡◌ {A = ℕ} 0 1 = cc in omega arith)
+found_test true words v p e = absurd cc
 found_test false words v p e = e
 
 sought_found : (words : List ℕ) (v p : ℕ) → router_place words v ≡ Some p → place_of words v ≡ Some p
@@ -121,8 +122,7 @@ module _ (words lists : List ℕ) (held : Held words) (v p : ℕ) (at : router_p
   new_number_lem u priority interval addresses e z =
       let checks = passed (configure_checks words u priority interval addresses) (omega arith) e in
       let there : is_found (place_of words u) ≡ true = ap (λ (k : ℕ). is_found (place_of words k)) z ∙ ap is_found (sought_found words v p at) in
-      let y : ◌≡◌ {A = ℕ} 0 1 = cc in
-      omega arith
+      cc
 
   -- another place, by its first word
   elsewhere : (q u : ℕ) → get_or words (base_of q) 0 ≡ u → ¬ (u ≡ v) → p ≡ q → ⊥
@@ -147,7 +147,7 @@ module _ (words lists : List ℕ) (held : Held words) (v p : ℕ) (at : router_p
       record {
         place =
             same_router (set_record words q r) words v
-            (λ k. stored_test words q r v below held.long new old k (same_or_not k q))
+            (λ k. stored_test words q r v below held.long new old k (cases_eq k q))
             ∙ at;
         kept = same_kept (set_record words q r) (record_other words q r below held.long p (elsewhere q u e n));
         list = list;
@@ -164,7 +164,7 @@ module _ (words lists : List ℕ) (held : Held words) (v p : ℕ) (at : router_p
   still gone w l other (moves after (changes u q next r s c)) =
       record {
         place = same_router w words v (λ k. ap (λ (x : ℕ). eqb x v) (beside_first q words w c.beside k)) ∙ at;
-        kept = changed_kept q w r c (same_or_not p q);
+        kept = changed_kept q w r c (cases_eq p q);
         list = λ long n few. refl;
       }
   still gone w l other (configures u priority interval preempt addresses q e s) =

@@ -9,6 +9,7 @@ use native.Mathlib.Omega.{arith}
 use lib.Dec.{eqb, ltb}
 use lib.ListN.{length}
 use borrow.Author.Tests.{eqb-true, eqb-false, eq-eqb, ne_eqb}
+use Rattle.std.proofs.lemmas.Bool.{cases_eq}
 use Rattle.judging.specs.declared.Fields.{Fields}
 use Rattle.judging.specs.Judging.{Judged, judged_of}
 use Rattle.std.specs.Prelude.{Ok, Err, Some, None}
@@ -40,7 +41,7 @@ use Rattle.histories.specs.Histories.{Call, configure, remove, startup, shutdown
 use Rattle.histories.specs.Histories.{begun, GivenAll}
 use Rattle.histories.proofs.Became.{Bumped, becomes_self, stays_bumped, step_bumped, ticked_bumped}
 use Rattle.histories.proofs.Changed.{Changed, event_changed, count_changed}
-use Rattle.histories.proofs.Held.{Held, same_or_not}
+use Rattle.histories.proofs.Held.{Held}
 use Rattle.histories.proofs.Begun.{empty_held, empty_record}
 use Rattle.configuring.proofs.Configures.{configure_most, never_full, never_unknown}
 use Rattle.histories.proofs.Histories.{accepted_unchanged, call_held}
@@ -116,7 +117,7 @@ module _ (p : ℕ) (below : p < 255) (words : List ℕ) (long : length words ≡
   unfolding acted_of
   acted lists q o leftover room low kept bumped =
       same_test (ltb (length room) (need_of o.writes (4 * o.router.count))) _ _ (unchanged words refl)
-      (stored q _ o.router (event_changed words q o.router low long kept) bumped (same_or_not p q))
+      (stored q _ o.router (event_changed words q o.router low long kept) bumped (cases_eq p q))
 
   pub happened : (f : Found) (lists : List ℕ) (v : ℕ) (e : Event) (room : List ℕ) → router_place words v ≡ f
       → Same (happened_at f words lists e room).words
@@ -203,7 +204,7 @@ module _ (p : ℕ) (below : p < 255) (words : List ℕ) (long : length words ≡
       → Heard f (sought_at f words lists bytes fields room)
   sought None lists bytes fields room s =
       form (count_refusal words 9) (unchanged (count_refusal words 9) (count_record words 9 (omega arith) p))
-  sought (Some q) lists bytes fields room s = heard_at_lem q lists bytes fields room s (same_or_not p q)
+  sought (Some q) lists bytes fields room s = heard_at_lem q lists bytes fields room s (cases_eq p q)
 
   pub judged : (j : Judged) (lists bytes room : List ℕ) → judged_of bytes ≡ j
       → Heard (addressee words j) (judged_at j words lists bytes room)
@@ -233,7 +234,7 @@ module _ (p : ℕ) (below : p < 255) (words : List ℕ) (long : length words ≡
       → r.counts ≡ no_counts → Put t (is_at f p) (cond t (set_record words (place_in f) r) words)
   put false f r low good none = form words (unchanged words refl)
   put true None r low good none = absurd ((good refl).0 refl)
-  put true (Some q) r low good none = put_at q r (low q refl) (good refl).1 none (same_or_not p q)
+  put true (Some q) r low good none = put_at q r (low q refl) (good refl).1 none (cases_eq p q)
 
 -- the numbers after a call
 pub tally_test : (t a b o u l i : Bool) (n : Counts) → cond t no_counts (Bumps a b o u l i (modulo n))

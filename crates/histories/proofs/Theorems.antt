@@ -9,10 +9,13 @@ use native.Mathlib.Omega.{arith}
 use lib.Dec.{eqb, ltb}
 use lib.ListN.{length}
 use borrow.Author.Tests.{eqb-true, eqb-false}
+use Rattle.std.proofs.lemmas.Bool.{cond_both}
 use Rattle.judging.specs.declared.Fields.{Fields}
 use Rattle.judging.specs.Judging.{Judged, judged_of}
-use Rattle.std.specs.Prelude.{Ok, Err, Some, None}
-use Rattle.judging.proofs.Accepted.{refused_most}
+use Rattle.wire.specs.declared.refusal.Refusal.{Refusal}
+use Rattle.wire.specs.Refusal.{number_answered}
+use Rattle.std.specs.Prelude.{Result as Ending, Ok, Err, Some, None}
+use Rattle.judging.proofs.Accepted.{refusal_most, refused_most}
 use Rattle.states.specs.declared.record.Router.{Router}
 use Rattle.states.specs.declared.step.Event.{Event}
 use Rattle.states.specs.declared.step.Outcome.{Outcome}
@@ -27,13 +30,14 @@ use Rattle.places.proofs.Parts.{part_other, apart}
 use Rattle.places.proofs.Records.{record_other}
 use Rattle.places.proofs.Words.{count_record}
 use Rattle.events.specs.Lists.{list_at, set_list}
-use Rattle.wire.proofs.Refusals.{nonzero, same_refusal}
+use Rattle.wire.proofs.Refusals.{nonzero, no_room, same_refusal}
 use Rattle.events.specs.Result.{Answered, Answer, answer_of, Result, refuses, router_place, acted_of}
-use Rattle.configuring.specs.Configuring.{place_in, new_router, freed, configure_refusal, remove_refusal}
+use Rattle.configuring.specs.Configuring.{configure_checks, remove_checks, place_in, new_router, freed, configure_refusal, remove_refusal}
 use Rattle.events.specs.Events.{happened_at, happened_of, clocked_at, clocked_of, Status, Told, status_of, ProperTold}
 use Rattle.packets.specs.Packets.{refusal_at, accepted_at, sought_at, judged_at, heard_of}
 use Rattle.packets.proofs.Heard.{refused_range}
-use Rattle.histories.specs.Theorems.{OneResult, OneStatus, OneConfiguring, OneRemoving, EventElsewhere, ClockElsewhere}
+use Rattle.histories.specs.Theorems.{OneResult, OneStatus, OneConfiguring, OneRemoving, OneConfigureAnswer, OneRemoveAnswer}
+use Rattle.histories.specs.Theorems.{EventElsewhere, ClockElsewhere}
 use Rattle.histories.specs.Theorems.{PacketElsewhere, ConfigureElsewhere, ListElsewhere, RemoveElsewhere}
 use Rattle.histories.specs.Theorems.{LowestFreePlace, NoFreePlace}
 use Rattle.configuring.proofs.Configures.{configure_most, never_full, never_unknown}
@@ -70,19 +74,41 @@ one_configuring words lists vrid priority interval preempt addresses a b after o
 pub one_removing : OneRemoving
 one_removing words vrid a b after other x y = (x.answer_is ∙ sym y.answer_is, x.words_are ∙ sym y.words_are)
 
--- of two results that leave a place as it was, whichever is taken does
-either_elsewhere : (t : Bool) (a b : Result) (words : List ℕ) (q : ℕ) → record_at a.words q ≡ record_at words q
-    → record_at b.words q ≡ record_at words q → record_at (cond t a b).words q ≡ record_at words q
-either_elsewhere true a b words q x y = x
-either_elsewhere false a b words q x y = y
+-- an answer that asks for no room is told by its number
+answer_told : (a b : Ending Unit Refusal) → number_answered a ≡ number_answered b → number_answered a ≤ 21 → a ≡ b
+answer_told (Ok u) (Ok v) e m = refl
+answer_told (Ok u) (Err r) e m = absurd (nonzero r (sym e))
+answer_told (Err r) (Ok v) e m = absurd (nonzero r e)
+answer_told (Err r) (Err q) e m =
+    ap Err (same_refusal r q e (no_room r (λ z. omega arith) ∙ sym (no_room q (λ z. omega arith))))
+
+configure_at_most : (words : List ℕ) (v priority interval : ℕ) (addresses : List ℕ)
+    → configure_refusal words v priority interval addresses ≤ 21
+unfolding configure_refusal
+configure_at_most words v priority interval addresses =
+    refusal_most 21 (configure_checks words v priority interval addresses) (omega arith)
+
+remove_at_most : (words : List ℕ) (v : ℕ) → remove_refusal words v ≤ 21
+unfolding remove_refusal
+remove_at_most words v = refusal_most 21 (remove_checks words v) (omega arith)
+
+pub one_configure_answer : OneConfigureAnswer
+one_configure_answer words lists vrid priority interval preempt addresses a b after other lists_after lists_other x y =
+    answer_told a b (x.answer_is ∙ sym y.answer_is)
+    (rw x.answer_is (configure_at_most words vrid priority interval addresses))
+
+pub one_remove_answer : OneRemoveAnswer
+one_remove_answer words vrid a b after other x y =
+    answer_told a b (x.answer_is ∙ sym y.answer_is) (rw x.answer_is (remove_at_most words vrid))
 
 -- what acts at a place leaves every other place as it was
 acted_elsewhere : (words lists : List ℕ) (p : ℕ) (o : Outcome) (leftover : ℕ) (room : List ℕ) (q : ℕ) → (q ≡ p → ⊥)
     → record_at (acted_of words lists p o leftover room).words q ≡ record_at words q
 unfolding acted_of
 acted_elsewhere words lists p o leftover room q n =
-    either_elsewhere (ltb (length room) (need_of o.writes (4 * o.router.count))) _ _ words q refl
-    (beside_record p words _ (event_beside words p o.router) q n)
+    cond_both (ltb (length room) (need_of o.writes (4 * o.router.count))) _ _
+    (λ (x : Result). record_at x.words q ≡ record_at words q) (λ t. refl)
+    (λ t. beside_record p words _ (event_beside words p o.router) q n)
 
 happened_elsewhere : (f : Found) (words lists : List ℕ) (q : ℕ) (e : Event) (room : List ℕ) → (f ≡ Some q → ⊥)
     → record_at (happened_at f words lists e room).words q ≡ record_at words q

@@ -9,6 +9,7 @@ use native.Mathlib.Omega.{arith}
 use lib.Dec.{eqb}
 use lib.ListN.{get_or}
 use borrow.Author.Tests.{eq-eqb, ne_eqb, eqb-true, eqb-false}
+use Rattle.std.proofs.lemmas.Bool.{and_right, cases_eq}
 use Rattle.judging.specs.declared.Fields.{Fields}
 use Rattle.judging.specs.Judging.{Judged, judged_of}
 use Rattle.std.specs.Prelude.{Ok, Err, Some, None}
@@ -20,7 +21,6 @@ use Rattle.places.proofs.Finding.{found}
 use Rattle.places.proofs.Words.{first_same, first_other, count_first}
 use Rattle.events.specs.Result.{router_place}
 use Rattle.events.specs.Events.{no_router, asked_at, asked_of}
-use Rattle.events.proofs.Matching.{and_false}
 use Rattle.events.proofs.Sought.{sought_below, sought_word}
 use Rattle.configuring.specs.Configuring.{no_counts, empty_of, freed, configure_refusal, remove_refusal}
 use Rattle.configuring.proofs.Configures.{never_full, never_unknown}
@@ -33,7 +33,7 @@ use Rattle.histories.specs.Standing.{removes}
 use Rattle.histories.specs.Theorems.{ToldCounts}
 use Rattle.histories.proofs.Begun.{empty_held, empty_record}
 use Rattle.histories.proofs.Does.{Moves, same, counts, changes, IsEvent, event_moves}
-use Rattle.histories.proofs.Held.{Held, same_or_not}
+use Rattle.histories.proofs.Held.{Held}
 use Rattle.histories.proofs.Histories.{call_held}
 use Rattle.histories.proofs.Standing.{call_still, fresh_at}
 use Rattle.histories.proofs.Stays.{same_router, stored_test, new_number_lem}
@@ -128,14 +128,14 @@ module _ (v : ℕ) where
     begun_here (configure u priority interval preempt addresses) n =
         ap (λ (t : Bool). eqb (configure_refusal m.words u priority interval addresses) 0 && t)
         (free_test m.words v p at (place_of m.words 0) refl)
-        ∙ and_false (eqb (configure_refusal m.words u priority interval addresses) 0)
+        ∙ and_right (eqb (configure_refusal m.words u priority interval addresses) 0) false refl
     begun_here (remove u) n = gone (eqb u v) (eqb (remove_refusal m.words u) 0) refl n
       where
         gone : (s t : Bool) → eqb u v ≡ s → (s && t) ≡ false → (t && is_at (router_place m.words u) p) ≡ false
         gone false t e f =
-            ap (λ (x : Bool). t && x) (for_test m.words v p at false u e) ∙ and_false t
+            ap (λ (x : Bool). t && x) (for_test m.words v p at false u e) ∙ and_right t false refl
         gone true false e f = refl
-        gone true true e f = absurd (let z : ◌≡◌ {A = ℕ} 0 1 = cc in omega arith)
+        gone true true e f = absurd cc
     begun_here (startup u room) n = refl
     begun_here (shutdown u room) n = refl
     begun_here (clock u d room) n = refl
@@ -180,7 +180,7 @@ module _ (v : ℕ) where
     -- removed: it is found nowhere
     removed_test : (f : Found) → router_place (set_record m.words p freed) v ≡ f → f ≡ None
     removed_test None s = refl
-    removed_test (Some q) s = absurd (other (same_or_not q p))
+    removed_test (Some q) s = absurd (other (cases_eq q p))
       where
         below : p < 255
         below = sought_below m.words v p at
@@ -200,8 +200,8 @@ module _ (v : ℕ) where
 
     gone_told : (s t : Bool) (u : ℕ) → eqb u v ≡ s → eqb (remove_refusal m.words u) 0 ≡ t → (s && t) ≡ true
         → told (called m (remove u)).words ≡ no_counts
-    gone_told false t u e f n = absurd (let z : ◌≡◌ {A = ℕ} 0 1 = cc in omega arith)
-    gone_told true false u e f n = absurd (let z : ◌≡◌ {A = ℕ} 0 1 = cc in omega arith)
+    gone_told false t u e f n = absurd cc
+    gone_told true false u e f n = absurd cc
     gone_told true true u e f n =
         let there : router_place m.words u ≡ Some p = ap (router_place m.words) (eqb-true u v e) ∙ at in
         let words : (called m (remove u)).words ≡ set_record m.words p freed = rw (f, there) in
@@ -211,13 +211,13 @@ module _ (v : ℕ) where
 
     here_test : (t : Bool) (call : Call) → Given call → removes v m call ≡ t → FollowsBy m call
     here_test false call g e = stays_told call g e
-    here_test true (configure u priority interval preempt addresses) g e = absurd (let z : ◌≡◌ {A = ℕ} 0 1 = cc in omega arith)
+    here_test true (configure u priority interval preempt addresses) g e = absurd cc
     here_test true (remove u) g e =
         begins_told m (remove u) e (gone_told (eqb u v) (eqb (remove_refusal m.words u) 0) u refl refl e)
-    here_test true (startup u room) g e = absurd (let z : ◌≡◌ {A = ℕ} 0 1 = cc in omega arith)
-    here_test true (shutdown u room) g e = absurd (let z : ◌≡◌ {A = ℕ} 0 1 = cc in omega arith)
-    here_test true (clock u d room) g e = absurd (let z : ◌≡◌ {A = ℕ} 0 1 = cc in omega arith)
-    here_test true (packet bytes room) g e = absurd (let z : ◌≡◌ {A = ℕ} 0 1 = cc in omega arith)
+    here_test true (startup u room) g e = absurd cc
+    here_test true (shutdown u room) g e = absurd cc
+    here_test true (clock u d room) g e = absurd cc
+    here_test true (packet bytes room) g e = absurd cc
 
   -- not in the table
   module _ (m : Memory) (held : Held m.words) (nowhere : router_place m.words v ≡ None) where
@@ -233,7 +233,7 @@ module _ (v : ℕ) where
         → router_place (set_record m.words q r) v ≡ None
     stored_nowhere q r below new old =
         same_router (set_record m.words q r) m.words v
-        (λ k. stored_test m.words q r v below held.long new old k (same_or_not k q))
+        (λ k. stored_test m.words q r v below held.long new old k (cases_eq k q))
         ∙ nowhere
 
     -- a packet for it is refused by 9
@@ -315,7 +315,7 @@ module _ (v : ℕ) where
         (fresh_told u priority interval preempt addresses g (eqb-true u v a)
         (eqb-true (configure_refusal m.words u priority interval addresses) 0 b) (place_of m.words 0) refl)
     configured_told s false z u priority interval preempt addresses g a b c =
-        nowhere_told (configure u priority interval preempt addresses) (rw b (and_false (eqb u v))) (rw b nowhere)
+        nowhere_told (configure u priority interval preempt addresses) (rw b (and_right (eqb u v) false refl)) (rw b nowhere)
     configured_told false true true u priority interval preempt addresses g a b c =
         nowhere_told (configure u priority interval preempt addresses) (rw a) (no_zero _ c)
     configured_told false true false u priority interval preempt addresses g a b c =
@@ -325,7 +325,7 @@ module _ (v : ℕ) where
 
     -- removing another one
     apart : {q : ℕ} → Some q ≡ None → ⊥
-    apart e = let z : ◌≡◌ {A = ℕ} 0 1 = cc in omega arith
+    apart e = cc
 
     gone : (q u : ℕ) → router_place m.words u ≡ Some q → eqb (remove_refusal m.words u) 0 ≡ true → ¬ (u ≡ v)
         → (z : Bool) → eqb v 0 ≡ z
@@ -339,7 +339,7 @@ module _ (v : ℕ) where
     removed_told : (t : Bool) (f : Found) (u : ℕ) → eqb (remove_refusal m.words u) 0 ≡ t → router_place m.words u ≡ f
         → FollowsBy m (remove u)
     removed_told false f u e s =
-        nowhere_told (remove u) (rw e (and_false (eqb u v))) (rw e nowhere)
+        nowhere_told (remove u) (rw e (and_right (eqb u v) false refl)) (rw e nowhere)
     removed_told true None u e s = absurd (never_unknown m.words u (eqb-true (remove_refusal m.words u) 0 e) s)
     removed_told true (Some q) u e s =
         let there = sought_word m.words u q s in

@@ -2,7 +2,9 @@
 -- the answers in proofs/Rows.antt, of what a refusal changes in proofs/Kept.antt and a call that is done in Done.antt, of what
 -- holds after every history in proofs/Histories.antt, Stays.antt and Standing.antt, and of counts in proofs/Counted.antt,
 -- Tallied.antt and Told.antt.
-use Rattle.std.specs.Prelude.{ℕ, ◌+◌, ◌-◌, ◌%◌, ◌^◌, ◌≤◌, ◌<◌, ◌≡◌, ◌↔◌, List, [], ◌∷◌, Bool, length, get_or, set, Some, None, Ok}
+use Rattle.std.specs.Prelude.{Result as Ending, ℕ, ◌+◌, ◌-◌, ◌%◌, ◌^◌, ◌≤◌, ◌<◌, ◌≡◌, ◌↔◌, List, [], ◌∷◌, Bool, length, get_or, set, Some, None, Ok}
+use Rattle.wire.specs.declared.refusal.Refusal.{Refusal}
+use Rattle.wire.specs.Refusal.{number_answered}
 use Rattle.wire.specs.Check.{first_refusal, Passes}
 use Rattle.judging.specs.declared.Fields.{Fields}
 use Rattle.judging.specs.Judging.{judged_of}
@@ -47,6 +49,19 @@ abbrev pub OneRemoving : Type 0
 OneRemoving =
     (words : List ℕ) (vrid a b : ℕ) (after other : List ℕ) → Removed words vrid a after → Removed words vrid b other
     → (a ≡ b) × (after ≡ other)
+
+-- and so are the answers of the two with these numbers, since neither asks for room
+abbrev pub OneConfigureAnswer : Type 0
+OneConfigureAnswer =
+    (words lists : List ℕ) (vrid priority interval : ℕ) (preempt : Bool) (addresses : List ℕ) (a b : Ending Unit Refusal)
+    (after other lists_after lists_other : List ℕ)
+    → Configured words lists vrid priority interval preempt addresses (number_answered a) after lists_after
+    → Configured words lists vrid priority interval preempt addresses (number_answered b) other lists_other → a ≡ b
+
+abbrev pub OneRemoveAnswer : Type 0
+OneRemoveAnswer =
+    (words : List ℕ) (vrid : ℕ) (a b : Ending Unit Refusal) (after other : List ℕ) → Removed words vrid (number_answered a) after
+    → Removed words vrid (number_answered b) other → a ≡ b
 
 -- "A call for one VRID leaves every other router's record as it was": startup and shutdown, whatever the memory
 abbrev pub EventElsewhere : Type 0

@@ -57,7 +57,7 @@ found_test false words v i n p rest t e f =
 
 found_from : (words : List ℕ) (v i n p : ℕ) → place_from words v i n ≡ Some p → Lowest words v i n p
 unfolding place_from
-found_from words v i zero p e = absurd (let z : ◌≡◌ {A = ℕ} 0 1 = cc in omega arith)
+found_from words v i zero p e = absurd cc
 found_from words v i (suc n) p e =
     found_test (eqb (get_or words (base_of i) 0) v) words v i n p (place_from words v (suc i) n) refl e (found_from words v (suc i) n p)
 
@@ -68,7 +68,7 @@ found words v p e = found_from words v 0 255 p e
 missing_test : (t : Bool) (words : List ℕ) (v i n : ℕ) (rest : Found) → eqb (get_or words (base_of i) 0) v ≡ t → cond t (Some i) rest ≡ None
     → (rest ≡ None → (q : ℕ) → suc i ≤ q → q < suc i + n → get_or words (base_of q) 0 ≡ v → ⊥)
     → (q : ℕ) → i ≤ q → q < i + suc n → get_or words (base_of q) 0 ≡ v → ⊥
-missing_test true words v i n rest t e f q a b c = let z : ◌≡◌ {A = ℕ} 0 1 = cc in omega arith
+missing_test true words v i n rest t e f q a b c = cc
 missing_test false words v i n rest t e f q a b c = other (eq-or-lt_of_le a)
   where
     other : (i ≡ q) ⊎ (i < q) → ⊥

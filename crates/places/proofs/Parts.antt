@@ -1,6 +1,7 @@
 -- A part of a list, after something was pasted into it: there, before it, and behind it.
 -- Assumes nothing.
-use Rattle.std.proofs.Common.{◌≡◌, ℕ, ◌+◌, ◌-◌, ◌<◌, ◌≤◌, Bool, true, false, ltb, ◌⊎◌, List, ◌++◌, length, take, drop, sym, refl, ap, ◌∙◌, inl, inr, ⊎_elim, append_assoc, eq-or-lt_of_le, arith, length-drop, take-append-drop, length-take-le, take_all, drop-drop, take_at, drop_at, ltb-false, ltb-true}
+use Rattle.std.proofs.Common.{◌≡◌, ℕ, ◌+◌, ◌-◌, ◌<◌, ◌≤◌, ◌⊎◌, List, ◌++◌, length, take, drop, sym, ap, ◌∙◌, inl, inr, ⊎_elim, append_assoc, arith, length-drop, take-append-drop, length-take-le, take_all, drop-drop, take_at, drop_at}
+use Rattle.std.proofs.lemmas.Bool.{cases_order}
 use lib.Seq.{paste, drop-paste, take-append-le, drop-append-le}
 
 -- what is pasted is read back
@@ -43,9 +44,5 @@ part_other d s b n a m h l (inl before) = part_before d s b n a m h l before
 part_other d s b n a m h l (inr behind) = part_behind d s b n a m h l behind
 
 -- of two different places, one stands before the other
-apart_test : (t : Bool) (q p : ℕ) → ltb q p ≡ t → (q ≡ p → ⊥) → (q < p) ⊎ (p < q)
-apart_test true q p e n = inl (ltb-true q p e)
-apart_test false q p e n = ⊎_elim (λ y. absurd (n (sym y))) inr (eq-or-lt_of_le (ltb-false q p e))
-
 pub apart : (q p : ℕ) → (q ≡ p → ⊥) → (q < p) ⊎ (p < q)
-apart q p n = apart_test (ltb q p) q p refl n
+apart q p n = ⊎_elim (λ e. absurd (n e)) (λ r. r) (cases_order q p)

@@ -9,11 +9,11 @@ use native.Mathlib.Omega.{arith}
 use lib.ListN.{length, get_or, set, take, drop, length-set}
 use lib.Seq.{get_or-set_same, get_or-set_other}
 use borrow.Author.Tests.{lt-ltb, le-ltb, ne_eqb}
+use Rattle.std.proofs.lemmas.Bool.{cases_eq}
 use Rattle.writing.specs.Frame.{frame_of}
 use Rattle.states.specs.declared.record.State.TheVariants.{Master}
 use Rattle.events.specs.Result.{Result as TableResult}
 use Rattle.histories.specs.Histories.{packet, Memory, called, begun}
-use Rattle.histories.proofs.Held.{same_or_not}
 use Rattle.segment.specs.Segment.{advertisement_of, after_all, handed_over}
 use Rattle.segment.specs.Segment.{Delivery as TableDelivery}
 use Rattle.station.specs.declared.station.Station.{Station}
@@ -144,7 +144,7 @@ module _ (segment : Segment) (running : Running segment) (some : segment.begun �
 
     pub next_stands : Stands next
     next_stands =
-        record { long = length-set l to after ∙ stands.long; each = λ i h. each_test i h (same_or_not i to) }
+        record { long = length-set l to after ∙ stands.long; each = λ i h. each_test i h (cases_eq i to) }
 
     sent : ¬ ((get_or l from nowhere).sent ≡ 0) × (packet_of (get_or l from nowhere) ≡ advertised from)
     sent = (stands.each from sender).latest master

@@ -9,11 +9,11 @@ use native.Mathlib.Omega.{arith}
 use lib.ListN.{length, get_or, set, length-set, length-replicate}
 use lib.Seq.{get_or-set_same, get_or-set_other}
 use borrow.Author.Tests.{ltb-true, eqb-false, ne_eqb, not-false}
+use Rattle.std.proofs.lemmas.Bool.{cases_eq}
 use Rattle.sums.specs.Sum.{Bytes}
 use Rattle.sums.proofs.Bytes.{bytes_each}
 use Rattle.writing.specs.Writing.{address_bytes_wrong}
 use Rattle.states.specs.declared.step.Event.TheVariants.{Startup as StartupEvent, Shutdown as ShutdownEvent}
-use Rattle.histories.proofs.Held.{same_or_not}
 use Rattle.station.specs.declared.station.Station.{Station}
 use Rattle.station.specs.Station.{packet_of}
 use Rattle.station.specs.Making.{station_refusal, made_of}
@@ -97,7 +97,7 @@ module _ (segment : Segment) (running : Running segment) where
       let s = stepped (station_at segment at) step in
       moved (set segment.stations at s) (length-set segment.stations at s ∙ running.long)
       (λ i k.
-      set_test at s (steps_on step (running.each at h)) (omega (arith, running.few)) i (same_or_not i at)
+      set_test at s (steps_on step (running.each at h)) (omega (arith, running.few)) i (cases_eq i at)
       (λ n. running.each i k))
 
   pub is_begun : ¬ (segment.used ≡ 0) → segment.begun ≡ true
@@ -190,7 +190,7 @@ module _ (segment : Segment) (running : Running segment) (body : List ℕ) (byte
         named = λ e. named;
         each =
             λ i h.
-            set_test segment running segment.used s new free i (same_or_not i segment.used)
+            set_test segment running segment.used s new free i (cases_eq i segment.used)
             (λ n. running.each i (omega arith));
       }
 

@@ -13,7 +13,7 @@ use Rattle.states.specs.declared.step.Event.TheVariants.{Packet}
 use Rattle.states.specs.Step.{step_in}
 use Rattle.router.specs.Accept.{accepted_of}
 use Rattle.histories.specs.Histories.{packet, Memory, called}
-use Rattle.histories.proofs.Held.{same_or_not}
+use Rattle.std.proofs.lemmas.Bool.{cases_eq}
 use Rattle.segment.specs.Segment.{router_of, primary_address, IsMaster, Stands, station_at, Segment}
 use Rattle.segment.specs.Segment.{Outranks, Delivery, handed_over}
 use Rattle.segment.proofs.Standing.{On}
@@ -90,7 +90,7 @@ module _ (vrid interval : ℕ) (addresses : List ℕ) (then : List Memory) (segm
     goes_on =
         record {
           same = length-set now d.to _ ∙ standing.same;
-          on = λ i l. on_test i l (same_or_not i d.to);
+          on = λ i l. on_test i l (cases_eq i d.to);
         }
 
     -- a delivery never makes a Master
@@ -103,7 +103,7 @@ module _ (vrid interval : ℕ) (addresses : List ℕ) (then : List Memory) (segm
     made_test i (inr e) h = subst (IsMaster vrid) (other i e) h
 
     pub makes_none : (i : ℕ) → IsMaster vrid (station_at next i) → IsMaster vrid (station_at now i)
-    makes_none i h = made_test i (same_or_not i d.to) h
+    makes_none i h = made_test i (cases_eq i d.to) h
 
     -- a Master that no sender outranks stays Master
     abbrev BeatsHere : Type 0
@@ -139,4 +139,4 @@ module _ (vrid interval : ℕ) (addresses : List ℕ) (then : List Memory) (segm
 
     pub stands_up : (i : ℕ) → (Outranks vrid (station_at then d.from) (station_at then i) → ⊥)
         → IsMaster vrid (station_at now i) → IsMaster vrid (station_at next i)
-    stands_up i n h = fast_test i (same_or_not i d.to) n h
+    stands_up i n h = fast_test i (cases_eq i d.to) n h

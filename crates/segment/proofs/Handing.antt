@@ -8,6 +8,7 @@ use native.Mathlib.Omega.{arith}
 use lib.Dec.{eqb, leb}
 use lib.ListN.{length, take, drop}
 use borrow.Author.Tests.{eq-eqb, ne_eqb, le-ltb}
+use Rattle.std.proofs.lemmas.Bool.{and_right}
 use Rattle.sums.specs.Sum.{Bytes}
 use Rattle.judging.specs.declared.Fields.{Fields}
 use Rattle.std.specs.Prelude.{Ok}
@@ -34,7 +35,6 @@ use Rattle.packets.specs.Packets.{refusal_at, accepted_at, heard_at, heard_of}
 use Rattle.histories.specs.Histories.{packet, Memory, called}
 use Rattle.histories.proofs.Changed.{Changed, event_changed, count_changed}
 use Rattle.histories.proofs.Histories.{accepted_unchanged}
-use Rattle.events.proofs.Matching.{and_false}
 use Rattle.histories.specs.Rows.{place_for}
 use Rattle.segment.specs.Segment.{router_of}
 use Rattle.segment.proofs.Standing.{On, word, on_sound, on_configured, changed_router, changed_on}
@@ -117,7 +117,7 @@ module _ (vrid interval : ℕ) (addresses : List ℕ) (q source : ℕ) where
             on.priority_is,
             on.interval_is,
             eq-eqb interval interval refl,
-            and_false (not (eqb q 255)),
+            and_right (not (eqb q 255)) false refl,
           )
 
       -- what it comes to: the owner counts 10, any other router takes the event

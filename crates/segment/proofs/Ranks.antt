@@ -7,7 +7,7 @@ use Prim.Native.Nat.{ℕ, zero, suc, ◌≤◌, ◌<◌}
 use native.Mathlib.Omega.{arith}
 use lib.Dec.{ltb}
 use borrow.Author.Tests.{ltb-true, ltb-false}
-use Rattle.histories.proofs.Held.{same_or_not}
+use Rattle.std.proofs.lemmas.Bool.{cases_eq}
 
 -- the first pair outranks the second
 abbrev pub Above : ℕ → ℕ → ℕ → ℕ → Type 0
@@ -61,7 +61,7 @@ module _ (In : ℕ → Type 0) (decide : (i : ℕ) → In i ⊎ (In i → ⊥)) 
 
   -- the next one is not in
   skip_none : (n : ℕ) → (In n → ⊥) → None n → None (suc n)
-  skip_none n out none i l x = either (same_or_not i n)
+  skip_none n out none i l x = either (cases_eq i n)
     where
       either : (i ≡ n) ⊎ (i ≡ n → ⊥) → ⊥
       either (inl z) = out (subst In z x)
@@ -73,7 +73,7 @@ module _ (In : ℕ → Type 0) (decide : (i : ℕ) → In i ⊎ (In i → ⊥)) 
         which = g.which;
         below = omega (arith, g.below);
         chosen = g.chosen;
-        greatest = λ i l e x. either i l e x (same_or_not i n);
+        greatest = λ i l e x. either i l e x (cases_eq i n);
       }
     where
       either : (i : ℕ) → i < suc n → (i ≡ g.which → ⊥) → In i → (i ≡ n) ⊎ (i ≡ n → ⊥) → Tops g.which i
@@ -97,7 +97,7 @@ module _ (In : ℕ → Type 0) (decide : (i : ℕ) → In i ⊎ (In i → ⊥)) 
         which = n;
         below = omega arith;
         chosen = x;
-        greatest = λ i l e y. either i (below_test i n l e) y (same_or_not i g.which);
+        greatest = λ i l e y. either i (below_test i n l e) y (cases_eq i g.which);
       }
     where
       either : (i : ℕ) → i < n → In i → (i ≡ g.which) ⊎ (i ≡ g.which → ⊥) → Tops n i
@@ -112,7 +112,7 @@ module _ (In : ℕ → Type 0) (decide : (i : ℕ) → In i ⊎ (In i → ⊥)) 
         which = g.which;
         below = omega (arith, g.below);
         chosen = g.chosen;
-        greatest = λ i l e y. either i l e y (same_or_not i n);
+        greatest = λ i l e y. either i l e y (cases_eq i n);
       }
     where
       either : (i : ℕ) → i < suc n → (i ≡ g.which → ⊥) → In i → (i ≡ n) ⊎ (i ≡ n → ⊥) → Tops g.which i

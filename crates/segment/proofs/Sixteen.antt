@@ -12,7 +12,7 @@ use lib.ListN.{length}
 use borrow.Author.Tests.{le-ltb, ltb-false, eqb-true, eqb-false}
 use Rattle.states.specs.declared.record.State.TheVariants.{Master}
 use Rattle.histories.specs.Histories.{Memory}
-use Rattle.histories.proofs.Held.{same_or_not}
+use Rattle.std.proofs.lemmas.Bool.{cases_eq}
 use Rattle.segment.specs.Segment.{router_of, primary_address, IsMaster, Stands, station_at, Segment, Outranks, Delivery}
 use Rattle.segment.specs.Segment.{after_all, FromMasters, Has, EachPair}
 use Rattle.segment.specs.Theorems.{OneMaster}
@@ -24,7 +24,7 @@ use Rattle.segment.proofs.Computed.{state_of, plain, stands}
 
 -- a Master of the row stands at 8 or above
 late_test : (a b : Bool) (i : ℕ) → ltb i 4 ≡ a → ltb i 8 ≡ b → state_of (cond a idle (cond b waiting leading)) ≡ Master → 8 ≤ i
-late_test true b i e f h = absurd (let z : ◌≡◌ {A = ℕ} 0 1 = cc in omega arith)
+late_test true b i e f h = absurd cc
 late_test false true i e f h = absurd (not_master h)
 late_test false false i e f h = ltb-false i 8 f
 
@@ -138,7 +138,7 @@ has_one : (from to n : ℕ) → to < n → (to ≡ from → ⊥) → Has (from_o
 has_one from to zero l h = absurd (omega arith)
 has_one from to (suc n) l h =
     has_one_test (eqb n from) from to n refl h
-    (last_or_before to n (Has (from_one from n) from to) l (λ k. has_one from to n k h) (same_or_not to n))
+    (last_or_before to n (Has (from_one from n) from to) l (λ k. has_one from to n k h) (cases_eq to n))
 
 has_some_test : (n k to : ℕ) → (to ≡ 8 + k → ⊥) → to < 16 → (k ≡ n) ⊎ Has (from_some 8 n 16) (8 + k) to
     → Has (from_one (8 + n) 16 ++ from_some 8 n 16) (8 + k) to
@@ -151,7 +151,7 @@ has_some : (n k to : ℕ) → k < n → (to ≡ 8 + k → ⊥) → to < 16 → H
 has_some zero k to h e l = absurd (omega arith)
 has_some (suc n) k to h e l =
     has_some_test n k to e l
-    (last_or_before k n (Has (from_some 8 n 16) (8 + k) to) h (λ x. has_some n k to x e l) (same_or_not k n))
+    (last_or_before k n (Has (from_some 8 n 16) (8 + k) to) h (λ x. has_some n k to x e l) (cases_eq k n))
 
 sixteen_pairs : EachPair 1 sixteen deliveries
 sixteen_pairs from to l k e h =
@@ -177,7 +177,7 @@ last_test k l (inr e) f = absurd (beaten (f e))
 sixteen_last : sixteen_one.station ≡ 15
 sixteen_last =
     let k = sixteen_one.station in
-    last_test k (below k sixteen_one.below) (same_or_not 15 k)
+    last_test k (below k sixteen_one.below) (cases_eq 15 k)
     (λ e. sixteen_one.greatest 15 (inside 15 (omega arith)) e (master_at_lem 15 (omega arith) (omega arith)))
 
 pub met : Met

@@ -4,7 +4,6 @@ use mathlib.Core.Path.{◌≡◌, refl, sym, ap, ◌∙◌}
 use mathlib.Core.List.{List}
 use mathlib.Core.Bool.{true}
 use Prim.Native.Nat.{ℕ, ◌≤◌, ◌<◌}
-use native.Mathlib.Omega.{arith}
 use lib.Dec.{eqb}
 use lib.ListN.{get_or}
 use Rattle.states.specs.declared.record.Router.{Router}
@@ -53,7 +52,7 @@ module _ (vrid interval : ℕ) (addresses : List ℕ) (primary priority : ℕ) (
 
 pub found_is : (f : Found) → is_found f ≡ true → f ≡ Some (place_in f)
 found_is (Some p) e = refl
-found_is None e = absurd (let z : ◌≡◌ {A = ℕ} 0 1 = cc in omega arith)
+found_is None e = absurd cc
 
 -- where the segment's router changes and nothing else does, the station stands where it stood
 module _ (vrid interval : ℕ) (addresses : List ℕ) (primary priority : ℕ) (m : Memory)

@@ -15,7 +15,7 @@ use Rattle.states.specs.Step.{stays, waits, hurries, beats, step_in}
 use Rattle.router.specs.Accept.{accepted_of}
 
 pub not_master : Backup ≡ Master → ⊥
-not_master e = let z : ◌≡◌ {A = ℕ} 0 1 = cc in omega arith
+not_master e = cc
 
 -- "A packet beats us when its priority is above P, or equal to P with a source address above our primary address"
 abbrev pub Beats : ℕ → ℕ → ℕ → ℕ → Type 0
@@ -25,8 +25,8 @@ beats_test : (a b c : Bool) (primary priority q source : ℕ) → ltb priority q
     → (a || (b && c)) ≡ true → Beats primary priority q source
 beats_test true b c primary priority q source x y z e = inl (ltb-true priority q x)
 beats_test false true true primary priority q source x y z e = inr (sym (eqb-true q priority y), ltb-true primary source z)
-beats_test false true false primary priority q source x y z e = absurd (let w : ◌≡◌ {A = ℕ} 0 1 = cc in omega arith)
-beats_test false false c primary priority q source x y z e = absurd (let w : ◌≡◌ {A = ℕ} 0 1 = cc in omega arith)
+beats_test false true false primary priority q source x y z e = absurd cc
+beats_test false false c primary priority q source x y z e = absurd cc
 
 pub beats_is : (primary : ℕ) (r : Router) (q source : ℕ) → beats primary r q source ≡ true → Beats primary r.priority q source
 beats_is primary r q source e =
@@ -61,7 +61,7 @@ module _ (primary : ℕ) (r : Router) (q source : ℕ) where
 
   -- a Master that is beaten steps down
   pub steps_down : (s : State) → r.state ≡ s → s ≡ Master → 1 ≤ q → Beats primary r.priority q source → next false s ≡ Master → ⊥
-  steps_down Initialize e m some b h = absurd (let z : ◌≡◌ {A = ℕ} 0 1 = cc in omega arith)
+  steps_down Initialize e m some b h = absurd cc
   steps_down Backup e m some b h = not_master m
   steps_down Master e m some b h =
       not_master (rw (ne_eqb q 0 (λ z. omega arith), is_beats primary (accepted_of r) q source b) at h)
@@ -75,7 +75,7 @@ module _ (primary : ℕ) (r : Router) (q source : ℕ) where
   pub stands_fast : (t : Bool) (s : State) → r.state ≡ s → s ≡ Master → 1 ≤ q → (Beats primary r.priority q source → ⊥)
       → next t s ≡ Master
   stands_fast true s e m some n = e ∙ m
-  stands_fast false Initialize e m some n = absurd (let z : ◌≡◌ {A = ℕ} 0 1 = cc in omega arith)
+  stands_fast false Initialize e m some n = absurd cc
   stands_fast false Backup e m some n = absurd (not_master m)
   stands_fast false Master e m some n =
       rw (ne_eqb q 0 (λ z. omega arith)) (fast_test (beats primary (accepted_of r) q source) refl n e)

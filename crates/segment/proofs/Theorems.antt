@@ -11,7 +11,7 @@ use Rattle.states.specs.declared.record.State.{State}
 use Rattle.states.specs.declared.record.State.TheVariants.{Initialize, Backup, Master}
 use Rattle.configuring.specs.Configuring.{is_found}
 use Rattle.histories.specs.Histories.{Memory}
-use Rattle.histories.proofs.Held.{same_or_not}
+use Rattle.std.proofs.lemmas.Bool.{cases_eq}
 use Rattle.segment.specs.Segment.{router_of, IsMaster, station_at, Segment, Outranks}
 use Rattle.segment.specs.Segment.{Delivery, handed_over, after_all, FromMasters, Has}
 use Rattle.segment.specs.Theorems.{OneMaster, OneMasterRemains, MakesNoMaster, BeatenBy, NamesWhoBeatIt, LoneMaster}
@@ -22,7 +22,7 @@ use Rattle.segment.proofs.Deliveries.{priority_of, address_of, Standing, begins,
 use Rattle.segment.proofs.Deliveries.{other, goes_down, stands_up}
 
 master_or_not : (s : State) → (s ≡ Master) ⊎ (s ≡ Master → ⊥)
-master_or_not Initialize = inr (λ e. let z : ◌≡◌ {A = ℕ} 0 1 = cc in omega arith)
+master_or_not Initialize = inr (λ e. cc)
 master_or_not Backup = inr not_master
 master_or_not Master = inl refl
 
@@ -131,8 +131,8 @@ module _ (vrid interval : ℕ) (addresses : List ℕ) (then : List Memory) (segm
         was = top.chosen;
         greatest = top.greatest;
         remains =
-            all_stand_up then b ds v top.which (λ j l h o. unbeaten_test j l h o (same_or_not j top.which)) top.chosen;
-        alone = λ i l h. alone_test ds v pairs i l h (same_or_not i top.which);
+            all_stand_up then b ds v top.which (λ j l h o. unbeaten_test j l h o (cases_eq j top.which)) top.chosen;
+        alone = λ i l h. alone_test ds v pairs i l h (cases_eq i top.which);
       }
 
   -- a delivery by which a station is no Master any more came to it from one that outranks it
@@ -160,7 +160,7 @@ module _ (vrid interval : ℕ) (addresses : List ℕ) (then : List Memory) (segm
         (sym (other vrid interval addresses then segment now stand d v.0.0 v.0.1 i (λ z. e (sym z)))) h))
 
     hit : d.to ≡ i
-    hit = hit_test (same_or_not d.to i)
+    hit = hit_test (cases_eq d.to i)
 
     apart : address d.from ≡ address i → ⊥
     apart e =

@@ -35,7 +35,7 @@ use Rattle.segment.proofs.Handing.{said, judged}
 fires_in_lem : (s : State) (primary : ℕ) (r : Router) (ticks : ℕ) → r.state ≡ s → s ≡ Master → r.timer ≤ ticks
     → (ticked_in s primary r ticks).outcome ≡ advertises r
 unfolding step_of
-fires_in_lem Initialize primary r ticks e m h = absurd (let z : ◌≡◌ {A = ℕ} 0 1 = cc in omega arith)
+fires_in_lem Initialize primary r ticks e m h = absurd cc
 fires_in_lem Backup primary r ticks e m h = absurd (not_master m)
 fires_in_lem Master primary r ticks e m h = rw (le-ltb ticks r.timer h, e)
 

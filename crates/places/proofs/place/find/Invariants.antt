@@ -1,6 +1,6 @@
 -- `places::place::find` meets its contract. The loop's invariant: what is found from here on is what is found at all.
 -- Assumes nothing.
-use Rattle.std.proofs.Common.{◌≡◌, ◌-◌, ◌≤◌}
+use Rattle.std.proofs.Common.{◌≡◌, ◌-◌}
 use Rattle.places.specs.Place.{place_from, place_of}
 use Rattle.places.proofs.place.find.Given as goal
 
