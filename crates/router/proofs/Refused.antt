@@ -1,6 +1,6 @@
 -- The numbers by which a router refuses a packet.
 -- Assumes nothing.
-use Rattle.std.proofs.Common.{◌≡◌, ℕ, ◌≤◌, Bool, true, false, cond, not, eqb, arith}
+use Rattle.std.proofs.Common.{◌≤◌, Bool, true, false, cond, not, eqb, arith}
 use Rattle.judging.specs.declared.Fields.{Fields}
 use Rattle.states.specs.declared.record.Router.{Router}
 use Rattle.router.specs.Accept.{list_differs, router_refusal}
