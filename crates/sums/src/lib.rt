@@ -4,15 +4,7 @@
 ghost use Rattle.std.specs.Prelude.{◌≡◌, ◌*◌, ◌/◌, ◌%◌, ◌^◌, ◌<◌, ◌≤◌, length, sum_by};
 ghost use Rattle.std.specs.Int.{from_be_bytes, w32};
 ghost use Rattle.sums.specs.Sum.{sum_of, Bytes};
-ghost use Rattle.sums.specs.Number.{number_of};
 ghost use Rattle.sums.specs.Total.{total, folded};
-
-// Four bytes as a 32-bit number, first byte greatest.
-pub fn number(a: u8, b: u8, c: u8, d: u8) -> u32
-    ensures { result ≡ number_of a b c d }
-{
-    u32::from_be_bytes([a, b, c, d])
-}
 
 // The sum of numbers of four bytes.
 fn numbers_sum(numbers: &[[u8; 4]]) -> u64
