@@ -15,14 +15,12 @@ use Rattle.places.specs.Place.{Found, base_of, set_record, place_of}
 use Rattle.std.specs.Prelude.{Some, None}
 use Rattle.places.specs.Layout.{encode_of}
 use Rattle.places.proofs.Finding.{find_hit, found}
-use Rattle.events.specs.declared.answer.Answered.TheVariants.{Done, Refused}
 use Rattle.events.specs.Lists.{set_list}
-use Rattle.events.specs.Result.{answer_of}
+use Rattle.events.specs.Result.{done, refusal}
 use Rattle.configuring.specs.Configuring.{empty_of, new_router, freed, configure_refusal}
 use Rattle.histories.proofs.Begun.{empty_record, empty_held}
-use Rattle.station.specs.declared.station.Stepped.{Stepped}
 use Rattle.station.specs.Station.{has_router, station_of}
-use Rattle.station.specs.Making.{station_refusal, addresses_in, made_of}
+use Rattle.station.specs.Making.{Made, station_refusal, addresses_in, made_of}
 use Rattle.in_tables.specs.Tables.{words_of, lists_of, WellFormed}
 use Rattle.in_tables.specs.Theorems.{MadeInTable, MadeWellFormed, RefusedStation}
 use Rattle.station.proofs.Made.{made_most, made_named}
@@ -93,41 +91,41 @@ module _ (primary : ℕ) where
 
 -- the number, the words and the lists, by whether it is refused
 module _ (primary : ℕ) (r : Router) (addresses : List ℕ) (number : ℕ) where
-  abbrev done : Stepped
-  done = record { station = station_of primary r (addresses_in addresses); answer = Done 0 0 }
+  abbrev made : Made
+  made = record { answer = done 0 0; station = station_of primary r (addresses_in addresses) }
 
-  abbrev undone : Stepped
-  undone = record { station = station_of primary freed (zeros 64); answer = Refused number }
+  abbrev unmade : Made
+  unmade = record { answer = refusal number; station = station_of primary freed (zeros 64) }
 
-  number_test : (t : Bool) → eqb number 0 ≡ t → (answer_of (cond t done undone).answer).number ≡ number
+  number_test : (t : Bool) → eqb number 0 ≡ t → (cond t made unmade).answer.number ≡ number
   number_test true e = sym (eqb-true number 0 e)
   number_test false e = refl
 
   -- the words of a table say nothing of addresses
-  same_words : words_of done.station ≡ words_of (station_of primary r (zeros 64))
+  same_words : words_of made.station ≡ words_of (station_of primary r (zeros 64))
   unfolding words_of
   same_words = refl
 
   words_test : (t : Bool)
-      → words_of (cond t done undone).station ≡ cond t (set_record (empty_of primary) 0 r) (empty_of primary)
+      → words_of (cond t made unmade).station ≡ cond t (set_record (empty_of primary) 0 r) (empty_of primary)
   words_test true =
       same_words ∙ sym (store_first (station_of primary freed (zeros 64)) refl r)
       ∙ ap (λ (words : List ℕ). set_record words 0 r) (blank_words primary)
   words_test false = blank_words primary
 
   lists_test : (t : Bool) → (t ≡ true → length addresses ≤ 64)
-      → lists_of (cond t done undone).station ≡ cond t (set_list (zeros 16320) 0 addresses) (zeros 16320)
+      → lists_of (cond t made unmade).station ≡ cond t (set_list (zeros 16320) 0 addresses) (zeros 16320)
   unfolding lists_of
   lists_test true most = first_list addresses (most refl)
   lists_test false most = blank_lists primary
 
   -- whether it has a router, and that it is well formed
-  router_test : (t : Bool) → (t ≡ true → ¬ (r.vrid ≡ 0)) → has_router (cond t done undone).station ≡ t
+  router_test : (t : Bool) → (t ≡ true → ¬ (r.vrid ≡ 0)) → has_router (cond t made unmade).station ≡ t
   router_test true named = ap not (ne_eqb r.vrid 0 (named refl))
   router_test false named = refl
 
   well_formed_test : (t : Bool) → (t ≡ true → length addresses ≤ 64) → r.vrid < 256 → r.priority < 256
-      → r.interval < 256 → r.count ≡ length addresses / 4 → WellFormed (cond t done undone).station
+      → r.interval < 256 → r.count ≡ length addresses / 4 → WellFormed (cond t made unmade).station
   well_formed_test true most a b c d =
       let n = length addresses in
       let few : n ≤ 64 = most refl in
@@ -150,7 +148,7 @@ made_in_table v priority interval preempt primary addresses =
       number_test primary r addresses number (eqb number 0) refl,
       words_test primary r addresses number (eqb number 0),
       lists_test primary r addresses number (eqb number 0)
-          (λ t. made_most v priority interval preempt primary addresses (eqb-true number 0 t)),
+          (λ t. made_most v priority interval addresses (eqb-true number 0 t)),
     )
 
 pub made_well_formed : MadeWellFormed
@@ -159,7 +157,7 @@ made_well_formed v priority interval preempt primary addresses a b c =
     let number = station_refusal v priority interval addresses in
     let r = new_router v priority interval preempt (length addresses / 4) in
     well_formed_test primary r addresses number (eqb number 0)
-    (λ t. made_most v priority interval preempt primary addresses (eqb-true number 0 t)) a b c refl
+    (λ t. made_most v priority interval addresses (eqb-true number 0 t)) a b c refl
 
 pub refused_station : RefusedStation
 unfolding made_of
@@ -167,6 +165,6 @@ refused_station v priority interval preempt primary addresses =
     let number = station_refusal v priority interval addresses in
     let r = new_router v priority interval preempt (length addresses / 4) in (
       router_test primary r addresses number (eqb number 0)
-          (λ t. made_named v priority interval preempt primary addresses (eqb-true number 0 t)),
+          (λ t. made_named v priority interval addresses (eqb-true number 0 t)),
       λ refused. rw (ne_eqb number 0 refused) (blank_words primary, blank_lists primary),
     )

@@ -17,7 +17,7 @@ use Rattle.states.specs.Step.{step_of}
 use Rattle.router.specs.Clock.{ticked_of}
 use Rattle.router.specs.Accept.{refused_of}
 use Rattle.output.proofs.Lengths.{bytes_length}
-use Rattle.events.specs.declared.answer.Answered.TheVariants.{Done, Short}
+use Rattle.events.specs.Result.{done, short}
 use Rattle.station.specs.declared.station.Station.{Station}
 use Rattle.station.specs.Station.{Result, refuses, has_router, list_of, with_router, with_frame}
 use Rattle.station.specs.Acting.{written_by, needed_by, acted_by}
@@ -34,7 +34,7 @@ refused_keeps : (s after : Station) (number : ℕ) (room : List ℕ) → after.a
 refused_keeps s after number room a b c =
     record {
       addresses = a;
-      written = λ bytes leftover e n. absurd (let z : ◌≡◌ {A = ℕ} 0 1 = cc in omega arith);
+      written = λ n. absurd (n refl);
       silent = λ n. (b, c);
     }
 
@@ -47,7 +47,7 @@ module _ (s : Station) (o : Outcome) (leftover : ℕ) (room : List ℕ) where
   frame_keeps : ¬ (needed_by s o ≡ 0)
       → Keeps s
       (record {
-        answer = Done (needed_by s o) leftover;
+        answer = done (needed_by s o) leftover;
         station = with_frame (with_router s o.router) (take (50 + length (list_of s)) (written_by s o));
         room = over (written_by s o) room;
       })
@@ -62,15 +62,15 @@ module _ (s : Station) (o : Outcome) (leftover : ℕ) (room : List ℕ) where
       let stands = ap (λ (k : ℕ). take k (over written room)) long ∙ first in
       record {
         addresses = refl;
-        written = λ bytes left e m. (long, kept ∙ sym stands);
-        silent = λ h. absurd (some (h (needed_by s o) leftover refl));
+        written = λ m. (long, kept ∙ sym stands);
+        silent = λ h. absurd (some h);
       }
 
   acted_test : (t u : Bool) → eqb (needed_by s o) 0 ≡ u
       → Keeps s
-      (cond t (record { answer = Short (needed_by s o); station = s; room = room })
+      (cond t (record { answer = short (needed_by s o); station = s; room = room })
       (record {
-        answer = Done (needed_by s o) leftover;
+        answer = done (needed_by s o) leftover;
         station =
             cond u (with_router s o.router)
             (with_frame (with_router s o.router) (take (50 + length (list_of s)) (written_by s o)));
@@ -79,14 +79,13 @@ module _ (s : Station) (o : Outcome) (leftover : ℕ) (room : List ℕ) where
   acted_test true u e =
       record {
         addresses = refl;
-        written = λ bytes left h n. absurd (let z : ◌≡◌ {A = ℕ} 0 1 = cc in omega arith);
+        written = λ n. absurd (n refl);
         silent = λ n. (refl, refl);
       }
   acted_test false true e =
       record {
         addresses = refl;
-        written = λ bytes left h n.
-            absurd (n (let z : bytes ≡ needed_by s o = cc in z ∙ eqb-true (needed_by s o) 0 e));
+        written = λ n. absurd (n (eqb-true (needed_by s o) 0 e));
         silent = λ n. (refl, refl);
       }
   acted_test false false e = frame_keeps (eqb-false (needed_by s o) 0 e)

@@ -21,6 +21,7 @@ use Rattle.router.proofs.Kept.{ticked_unchanged}
 use Rattle.places.specs.Place.{Found, count_at_place}
 use Rattle.events.specs.Lists.{list_at}
 use Rattle.events.specs.Result.{Result as TableResult, refuses as table_refuses, router_place, acted_of}
+use Rattle.events.proofs.Answers.{one_answer}
 use Rattle.events.specs.Events.{happened_at, happened_of, clocked_at, clocked_of}
 use Rattle.packets.specs.Packets.{refusal_at, accepted_at, heard_at, sought_at, judged_at, heard_of}
 use Rattle.packets.proofs.Heard.{refused_range}
@@ -39,7 +40,7 @@ use Rattle.in_tables.proofs.Tables.{few, first_list, count_first}
 
 pub one_step : OneStep
 one_step result a b room other x y =
-    let answers = x.answer_is ∙ sym y.answer_is in
+    let answers = one_answer a.answer b.answer (x.answer_is ∙ sym y.answer_is) in
     let stations = x.station_is ∙ sym y.station_is in
     (λ i. record { station = stations i; answer = answers i }, x.room_is ∙ sym y.room_is)
 

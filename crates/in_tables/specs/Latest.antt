@@ -3,7 +3,6 @@ use Rattle.std.specs.Prelude.{ℕ, ◌+◌, ◌≡◌, length, take}
 use Rattle.judging.specs.declared.Fields.{Fields}
 use Rattle.states.specs.declared.step.Writes.{Writes}
 use Rattle.states.specs.declared.step.Writes.TheVariants.{Nothing, Advertisement, Farewell, Takeover}
-use Rattle.events.specs.declared.answer.Answered.TheVariants.{Done}
 use Rattle.station.specs.declared.station.Station.{Station}
 use Rattle.station.specs.Station.{Result, list_of}
 
@@ -11,11 +10,11 @@ use Rattle.station.specs.Station.{Result, list_of}
 pub record Keeps (s : Station) (r : Result) : Type 0 where
   pub addresses : r.station.addresses ≡ s.addresses
   -- where anything is written, the frame is what stands at the start of the room
-  pub written : (bytes leftover : ℕ) → r.answer ≡ Done bytes leftover → ¬ (bytes ≡ 0)
+  pub written : ¬ (r.answer.written ≡ 0)
       → (r.station.sent ≡ 50 + length (list_of s))
       × (take r.station.sent r.station.frame ≡ take r.station.sent r.room)
   -- and else it stays
-  pub silent : ((bytes leftover : ℕ) → r.answer ≡ Done bytes leftover → bytes ≡ 0)
+  pub silent : r.answer.written ≡ 0
       → (r.station.sent ≡ s.sent) × (r.station.frame ≡ s.frame)
 
 -- the priority of an advertisement: "advertise with priority 0" where a Master shuts down

@@ -1,7 +1,7 @@
 -- "Each station is a table of one router": that table (01, 'The rehearsal program', 'The table').
 use Rattle.std.specs.Prelude.{ℕ, ◌<◌, ◌≡◌, List, ◌∷◌, ◌++◌, length, replicate}
 use Rattle.places.specs.Layout.{encode_of}
-use Rattle.events.specs.Result.{Result as TableResult, answer_of}
+use Rattle.events.specs.Result.{Result as TableResult}
 use Rattle.station.specs.declared.station.Station.{Station}
 use Rattle.station.specs.Station.{Result}
 
@@ -19,7 +19,7 @@ lists_of s = s.addresses ++ replicate 16256 0
 
 -- what a step leaves, as a call of the table leaves it
 abbrev pub in_table : Result → TableResult
-in_table r = record { answer = answer_of r.answer; words = words_of r.station; room = r.room }
+in_table r = record { answer = r.answer; words = words_of r.station; room = r.room }
 
 -- a station whose table holds it: its bytes are bytes ("VRID, priority and interval come as bytes"), it has at most 16
 -- virtual addresses in 64 bytes, and 9 counts of refusals. Where its VRID is 0 it has no router

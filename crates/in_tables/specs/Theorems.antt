@@ -7,7 +7,7 @@ use Rattle.judging.specs.Judging.{judged_of}
 use Rattle.states.specs.declared.step.Event.{Event}
 use Rattle.states.specs.declared.step.Outcome.{Outcome}
 use Rattle.events.specs.Lists.{their_list}
-use Rattle.events.specs.Result.{answer_of, router_place}
+use Rattle.events.specs.Result.{router_place}
 use Rattle.configuring.specs.Configuring.{empty_of, configure_refusal, configured_words, configured_lists}
 use Rattle.events.specs.Events.{happened_of, clocked_of}
 use Rattle.packets.specs.Packets.{heard_of}
@@ -60,7 +60,7 @@ NoneInTable =
 abbrev pub MadeInTable : Type 0
 MadeInTable =
     (vrid priority interval : ℕ) (preempt : Bool) (primary : ℕ) (addresses : List ℕ)
-    → ((answer_of (made_of vrid priority interval preempt primary addresses).answer).number
+    → ((made_of vrid priority interval preempt primary addresses).answer.number
     ≡ configure_refusal (empty_of primary) vrid priority interval addresses)
     × (words_of (made_of vrid priority interval preempt primary addresses).station
     ≡ configured_words (empty_of primary) vrid priority interval preempt addresses)

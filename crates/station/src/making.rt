@@ -1,39 +1,13 @@
 // A station just configured.
-ghost use Rattle.std.specs.Prelude.{◌≡◌, IfOk};
-ghost use Rattle.wire.specs.Refusal.{number_answered, room_answered};
+ghost use Rattle.std.specs.Prelude.{◌≡◌};
 ghost use Rattle.station.specs.Station.{station_of};
-ghost use Rattle.station.specs.Making.{Makes, addresses_in, station_refusal, made_of};
+ghost use Rattle.station.specs.Making.{Makes, addresses_in, made_of};
 
 use crate::station::{Station, Stepped};
-use configuring::new_router;
+use configuring::{Settings, new_router, settings_refusal};
 use events::answer::Done;
 use states::record::Router;
-use wire::refusal::Refusal;
 use writing::addresses::Addresses;
-
-// The addresses, or the first of refusals 14 to 17.
-#[tactic(auto, unfolding(crate::specs::Making::station_refusal))]
-fn station_refusal(
-    vrid: u8,
-    priority: u8,
-    interval: u8,
-    addresses: &[u8],
-) -> Result<Addresses<'_>, Refusal>
-    ensures number { number_answered result ≡ station_refusal vrid priority interval addresses.now }
-    ensures room { room_answered result ≡ 0 }
-    ensures taken { IfOk result (λ list. list.bytes.now ≡ addresses.now) }
-{
-    if vrid == 0 {
-        return Err(Refusal::VridZero);
-    }
-    if priority == 0 {
-        return Err(Refusal::PriorityZero);
-    }
-    if interval == 0 {
-        return Err(Refusal::IntervalZero);
-    }
-    Addresses::try_from(addresses)
-}
 
 // A station that has counted and sent nothing.
 fn station_of(primary: u32, router: Router, addresses: [u8; 64]) -> Station
@@ -69,7 +43,13 @@ pub fn new_station(
 ) -> Stepped
     ensures { Makes (made_of vrid priority interval preempt primary addresses.now) result }
 {
-    match station_refusal(vrid, priority, interval, addresses) {
+    let settings = Settings {
+        vrid,
+        priority,
+        interval,
+        preempt,
+    };
+    match settings_refusal(settings, addresses) {
         Ok(list) => {
             let fresh = new_router(vrid, priority, interval, preempt, list.count());
             Stepped {

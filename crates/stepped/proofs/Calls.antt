@@ -14,7 +14,7 @@ use Rattle.station.specs.declared.station.Station.{Station}
 use Rattle.station.specs.Station.{Result}
 use Rattle.hearing.specs.Hearing.{heard_by}
 use Rattle.steps.specs.Steps.{happened_to, clocked_by}
-use Rattle.passing.specs.Passing.{fresh_room, leftover_of, passed_in, passed}
+use Rattle.passing.specs.Passing.{fresh_room, passed_in, passed}
 use Rattle.in_tables.specs.Tables.{words_of, lists_of, in_table, WellFormed}
 use Rattle.in_tables.proofs.Theorems.{event_in_table, clock_in_table, packet_in_table}
 use Rattle.in_tables.proofs.Staying.{clock_stays}
@@ -27,8 +27,8 @@ unfoldable pub clocks_of : ℕ → ℕ → Station → ℕ → List Call
 clocks_of vrid zero s d = []
 clocks_of vrid (suc times) s d =
     clock vrid d fresh_room
-    ∷ cond (eqb (leftover_of (clocked_by s d fresh_room).answer) 0) []
-    (clocks_of vrid times (clocked_by s d fresh_room).station (leftover_of (clocked_by s d fresh_room).answer))
+    ∷ cond (eqb (clocked_by s d fresh_room).answer.leftover 0) []
+    (clocks_of vrid times (clocked_by s d fresh_room).station (clocked_by s d fresh_room).answer.leftover)
 
 -- the calls of the table that a step of a station is
 abbrev pub calls_of : ℕ → Station → Step → List Call
@@ -56,7 +56,7 @@ given_clocks : (vrid times : ℕ) (s : Station) (d : ℕ) → GivenAll (clocks_o
 unfolding clocks_of
 given_clocks vrid zero s d = tt
 given_clocks vrid (suc times) s d =
-    (tt, given_either (eqb (leftover_of (clocked_by s d fresh_room).answer) 0) _ (given_clocks vrid times _ _))
+    (tt, given_either (eqb (clocked_by s d fresh_room).answer.leftover 0) _ (given_clocks vrid times _ _))
 
 given_calls : (vrid : ℕ) (s : Station) (step : Step) → GivenAll (calls_of vrid s step)
 given_calls vrid s (starts room) = (tt, tt)
@@ -105,7 +105,7 @@ module _ (vrid : ℕ) where
   clocks_called zero s d w v = refl
   clocks_called (suc times) s d w v =
       let next = (clocked_by s d fresh_room).station in
-      let left = leftover_of (clocked_by s d fresh_room).answer in
+      let left = (clocked_by s d fresh_room).answer.leftover in
       let more = clocks_called times next left (clock_stays s d fresh_room w)
       ((clock_onward s d fresh_room).router.vrid ∙ v) in
       ap (λ (m : Memory). after m (cond (eqb left 0) [] (clocks_of vrid times next left))) (clock_called s d fresh_room w v)

@@ -9,7 +9,7 @@ use Rattle.states.specs.declared.step.Event.TheVariants.{Startup, Shutdown}
 use Rattle.station.specs.declared.station.Station.{Station}
 use Rattle.hearing.specs.Hearing.{heard_by}
 use Rattle.steps.specs.Steps.{happened_to, clocked_by}
-use Rattle.passing.specs.Passing.{fresh_room, leftover_of, passed_in, passed}
+use Rattle.passing.specs.Passing.{fresh_room, passed_in, passed}
 use Rattle.in_tables.specs.Tables.{WellFormed}
 use Rattle.in_tables.proofs.Staying.{event_stays, clock_stays, packet_stays}
 use Rattle.stepped.specs.Stepped.{Step, starts, shuts, ticks, passes, hears, stepped, stepped_all}
@@ -29,7 +29,7 @@ module _ (R : Station → Station → Type 0) (none : (s : Station) → R s s)
   passed_by zero s d = none s
   passed_by (suc times) s d =
       let next = (clocked_by s d fresh_room).station in
-      let left = leftover_of (clocked_by s d fresh_room).answer in
+      let left = (clocked_by s d fresh_room).answer.leftover in
       let first = clock s d fresh_room in
       either (eqb left 0) s next (passed_in times next left) first
       (both s next (passed_in times next left) first (passed_by times next left))

@@ -1,6 +1,6 @@
 -- The theorems that specs/Theorems.antt states.
 -- Assumes nothing.
-use mathlib.Core.Path.{◌≡◌, refl, sym, ap, subst, ◌∙◌}
+use mathlib.Core.Path.{◌≡◌, sym, ap, subst, ◌∙◌}
 use mathlib.Core.Bool.{Bool, false}
 use mathlib.Core.List.{List, ◌∷◌}
 use Prim.Native.Nat.{ℕ, ◌*◌, ◌/◌, ◌%◌}
@@ -17,9 +17,8 @@ use Rattle.events.specs.Result.{router_place}
 use Rattle.configuring.specs.Configuring.{is_found, new_router}
 use Rattle.histories.specs.Histories.{configure, Memory, called, after, begun}
 use Rattle.station.specs.declared.station.Station.{Station}
-use Rattle.station.specs.declared.station.Stepped.{Stepped}
 use Rattle.station.specs.Station.{list_of, packet_of, station_of}
-use Rattle.station.specs.Making.{station_checks, station_refusal, addresses_in, made_of}
+use Rattle.station.specs.Making.{Made, station_checks, station_refusal, addresses_in, made_of}
 use Rattle.station.proofs.Made.{made_named, made_done}
 use Rattle.in_tables.specs.Tables.{words_of, WellFormed}
 use Rattle.in_tables.proofs.Tables.{first_record, primary_is, found_first, first_list}
@@ -42,8 +41,7 @@ module _ (vrid priority interval : ℕ) (preempt : Bool) (primary : ℕ) (addres
   fresh = station_of primary (new_router vrid priority interval preempt (length addresses / 4)) (addresses_in addresses)
 
   made_fresh : made ≡ fresh
-  made_fresh =
-      ap (λ (x : Stepped). x.station) (sym (made_done vrid priority interval preempt primary addresses fresh taken refl))
+  made_fresh = ap (λ (x : Made). x.station) (made_done vrid priority interval addresses preempt primary taken)
 
   addresses_right : address_bytes_wrong addresses ≡ false
   unfolding station_refusal
@@ -106,7 +104,7 @@ module _ (vrid interval : ℕ) (addresses : List ℕ) (s : Station) (c : Lived v
   -- the table's router is the station's
   place_is : router_place (words_of s) vrid ≡ Some 0
   place_is =
-      let named = made_named vrid c.priority interval c.preempt c.primary addresses c.taken in
+      let named = made_named vrid c.priority interval addresses c.taken in
       ap (router_place (words_of s)) (sym on.0) ∙ found_first s formed (λ z. named (sym on.0 ∙ z))
 
   router_is : router_of vrid (table_of s) ≡ s.router
