@@ -21,20 +21,50 @@ pub enum Unreadable {
     TotalBeyondGiven,
 }
 
-// Where the header ends: four bytes for each of its length field.
-pub fn header_length(packet: &[u8]) -> usize
-    requires { 20 ≤ length packet.now }
-    ensures { result ≡ header_length packet.now }
-{
-    4 * usize::from(packet[0] % 16)
+// A packet with the 20 bytes that every header has.
+#[derive(Clone, Copy)]
+pub struct Header<'a> {
+    pub packet: &'a [u8],
+    pub ghost given: { 20 ≤ length packet.now },
 }
 
-// The total length that the header names.
-pub fn total_length(packet: &[u8]) -> usize
-    requires { 20 ≤ length packet.now }
-    ensures { result ≡ total_length packet.now }
-{
-    usize::from(u16::from_be_bytes([packet[2], packet[3]]))
+impl Header<'_> {
+    // Where it ends: four bytes for each of its length field.
+    pub fn length(&self) -> usize
+        ensures { result ≡ header_length self.now.packet.now }
+    {
+        4 * usize::from(self.packet[0] % 16)
+    }
+
+    // The total length that it names.
+    pub fn total_length(&self) -> usize
+        ensures { result ≡ total_length self.now.packet.now }
+    {
+        usize::from(u16::from_be_bytes([self.packet[2], self.packet[3]]))
+    }
+
+    // Whether its one's complement sum is wrong.
+    #[tactic(auto, using(crate::proofs::Readable::reads), unfolding(crate::specs::Packet::header_sum_wrong))]
+    fn sum_wrong(&self) -> bool
+        requires { cause_of self.now.packet.now ≡ 0 }
+        ensures { result ≡ header_sum_wrong self.now.packet.now }
+    {
+        sum(&self.packet[..self.length()]) != 65535
+    }
+
+    // Whether the packet is a fragment, not VRRP, or not to 224.0.0.18.
+    #[tactic(auto, unfolding(crate::specs::Packet::not_ours))]
+    fn not_ours(&self) -> bool
+        ensures { result ≡ not_ours self.now.packet.now }
+    {
+        let packet = self.packet;
+        let fragment = u16::from_be_bytes([packet[6], packet[7]]);
+        let destination = u32::from_be_bytes([packet[16], packet[17], packet[18], packet[19]]);
+        fragment / 8192 % 2 != 0
+            || fragment % 8192 != 0
+            || packet[9] != 112
+            || destination != 0xE0000012
+    }
 }
 
 // The first cause of refusal 1 that holds.
@@ -53,41 +83,19 @@ pub fn cause(packet: &[u8]) -> Option<Unreadable>
     if first % 16 < 5 {
         return Some(Unreadable::LengthFieldUnder5);
     }
-    let header = header_length(packet);
-    if given < header {
+    let header = Header { packet };
+    let end = header.length();
+    if given < end {
         return Some(Unreadable::HeaderBeyondGiven);
     }
-    let total = total_length(packet);
-    if total < header {
+    let total = header.total_length();
+    if total < end {
         return Some(Unreadable::TotalBelowHeader);
     }
     if given < total {
         return Some(Unreadable::TotalBeyondGiven);
     }
     None
-}
-
-// Whether the header's one's complement sum is wrong.
-#[tactic(auto, using(crate::proofs::Readable::reads), unfolding(crate::specs::Packet::header_sum_wrong))]
-fn header_sum_wrong(packet: &[u8]) -> bool
-    requires { cause_of packet.now ≡ 0 }
-    ensures { result ≡ header_sum_wrong packet.now }
-{
-    sum(&packet[..header_length(packet)]) != 65535
-}
-
-// Whether the packet is a fragment, not VRRP, or not to 224.0.0.18.
-#[tactic(auto, unfolding(crate::specs::Packet::not_ours))]
-fn not_ours(packet: &[u8]) -> bool
-    requires { 20 ≤ length packet.now }
-    ensures { result ≡ not_ours packet.now }
-{
-    let fragment = u16::from_be_bytes([packet[6], packet[7]]);
-    let destination = u32::from_be_bytes([packet[16], packet[17], packet[18], packet[19]]);
-    fragment / 8192 % 2 != 0
-        || fragment % 8192 != 0
-        || packet[9] != 112
-        || destination != 0xE0000012
 }
 
 // The first of refusals 1 to 4 that holds.
@@ -98,10 +106,11 @@ pub fn header_refusal(packet: &[u8]) -> Result<(), Refusal>
     if let Some(_) = cause(packet) {
         return Err(Refusal::IpHeader);
     }
-    if header_sum_wrong(packet) {
+    let header = Header { packet };
+    if header.sum_wrong() {
         return Err(Refusal::IpChecksum);
     }
-    if not_ours(packet) {
+    if header.not_ours() {
         return Err(Refusal::NotOurs);
     }
     if packet[8] != 255 {

@@ -10,7 +10,7 @@ ghost use Rattle.wire.specs.Refusal.{numbered};
 ghost use Rattle.headers.specs.Packet.{header_checks, payload};
 
 use crate::message::message_refusal;
-use headers::{header_length, header_refusal, total_length};
+use headers::{Header, header_refusal};
 use wire::refusal::Refusal;
 
 // What a packet that passes refusals 1 to 8 says.
@@ -52,7 +52,8 @@ fn payload(packet: &[u8]) -> &[u8]
     requires { first_refusal (header_checks packet.now) ≡ 0 }
     ensures { result.now ≡ payload packet.now }
 {
-    &packet[header_length(packet)..total_length(packet)]
+    let header = Header { packet };
+    &packet[header.length()..header.total_length()]
 }
 
 // Judges a packet up to refusal 8: any bytes have an answer.
@@ -64,5 +65,6 @@ pub fn judge(packet: &[u8]) -> Result<Fields, Refusal>
     let message = payload(packet);
     message_refusal(message)?;
     let source = u32::from_be_bytes([packet[12], packet[13], packet[14], packet[15]]);
-    Ok(read_fields(source, message, header_length(packet) + 8))
+    let header = Header { packet };
+    Ok(read_fields(source, message, header.length() + 8))
 }
