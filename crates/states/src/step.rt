@@ -1,7 +1,9 @@
 // The state-by-event table (RFC 3768 section 6.4), as one match.
 ghost use Rattle.std.specs.Prelude.{◌≡◌, ◌≤◌};
 ghost use Rattle.states.specs.Step.{state_number, event_number, event_priority, event_source};
-ghost use Rattle.states.specs.Step.{stays, waits, hurries, stops, advertises, takes_over};
+ghost use Rattle.states.specs.declared.record.State.TheVariants.{Master};
+ghost use Rattle.states.specs.Timers.{advertisement_interval_of};
+ghost use Rattle.states.specs.Step.{stays, enters, waits, hurries, stops};
 ghost use Rattle.states.specs.Step.{heard_by_backup, heard_by_master, step_of};
 ghost use Rattle.states.specs.Turn.{turn_of, became_by, applied_to};
 
@@ -125,25 +127,14 @@ fn stop(r: Router, writes: Writes) -> Turn
     }
 }
 
-// Master, advertising.
-fn advertise(r: Router) -> Turn
-    ensures { result ≡ turn_of (advertises r) }
+// Master, advertising; a takeover writes ARP frames too.
+fn advertise(r: Router, writes: Writes) -> Turn
+    ensures { result ≡ turn_of (enters r Master (advertisement_interval_of r.interval) writes) }
 {
     Turn {
         state: State::Master,
         timer: advertisement_interval(r.interval),
-        writes: Writes::Advertisement,
-    }
-}
-
-// Master, anew: it writes ARP frames too.
-fn take_over(r: Router) -> Turn
-    ensures { result ≡ turn_of (takes_over r) }
-{
-    Turn {
-        state: State::Master,
-        timer: advertisement_interval(r.interval),
-        writes: Writes::Takeover,
+        writes,
     }
 }
 
@@ -151,7 +142,7 @@ fn take_over(r: Router) -> Turn
 fn hear_as_backup(r: Router, theirs: u8) -> Turn
     ensures { result ≡ turn_of (heard_by_backup r theirs) }
 {
-    if !r.preempt | (r.priority <= theirs) {
+    if !r.preempt || r.priority <= theirs {
         return wait(r);
     }
     no_change(r)
@@ -161,7 +152,7 @@ fn hear_as_backup(r: Router, theirs: u8) -> Turn
 fn hear_as_master(r: Router, primary: u32, theirs: u8, source: u32) -> Turn
     ensures { result ≡ turn_of (heard_by_master primary r theirs source) }
 {
-    if (r.priority < theirs) | ((theirs == r.priority) & (primary < source)) {
+    if r.priority < theirs || theirs == r.priority && primary < source {
         return wait(r);
     }
     no_change(r)
@@ -177,17 +168,17 @@ pub fn turn(r: Router, primary: u32, event: Event) -> Turn
     let row = 4096 * state_number(r.state) + 256 * event_number(event) + u32::from(theirs);
     match row {
         // Initialize: startup, P = 255; startup, P < 255
-        0x00FF => take_over(r),
+        0x00FF => advertise(r, Writes::Takeover),
         0x0000..=0x00FE => wait(r),
         // Backup: shutdown; timer; packet, priority 0; packet, priority 1 or more
         0x1100..=0x11FF => stop(r, Writes::Nothing),
-        0x1200..=0x12FF => take_over(r),
+        0x1200..=0x12FF => advertise(r, Writes::Takeover),
         0x1300 => hurry(r),
         0x1301..=0x13FE | 0x13FF => hear_as_backup(r, theirs),
         // Master: shutdown; timer; packet, priority 0; packet, priority 1 or more
         0x2100..=0x21FF => stop(r, Writes::Farewell),
-        0x2200..=0x22FF => advertise(r),
-        0x2300 => advertise(r),
+        0x2200..=0x22FF => advertise(r, Writes::Advertisement),
+        0x2300 => advertise(r, Writes::Advertisement),
         0x2301..=0x23FE | 0x23FF => hear_as_master(r, primary, theirs, source),
         _ => no_change(r),
     }

@@ -10,13 +10,14 @@ use writing::addresses::Addresses;
 #[derive(Clone, Copy)]
 pub struct Station {
     pub primary: u32,
+    // Kept: a station is a table of one place, so there is no router where its number is 0: in_tables' theorems.
     pub router: Router,
     // how often each of refusals 1 to 9 was given
     pub refusals: [u32; 9],
     // the virtual addresses, four bytes each: the router's count says how many
     pub addresses: [u8; 64],
     // the latest advertisement frame
-    // Kept: a station's memory is fixed, and any value is a station: promises speak of the first bytes, as many as were sent.
+    // Kept: memory is fixed, and any value is a station: promises speak of the first bytes, as many as were sent.
     pub frame: [u8; 114],
     // how long that is, 0 where nothing was sent yet
     pub sent: usize,

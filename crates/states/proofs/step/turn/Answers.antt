@@ -12,7 +12,7 @@ use Rattle.states.proofs.step.turn.Goals.{in_default-via-then-row-lt5120+else-ro
 pub returns-in-255 : goal.returns-in-255
 returns-in-255 c =
     let a = c.args in
-    c.take_over.ensures ∙ ap turn_of (owner_starts a.primary a.r a.event (omega arith) (omega arith))
+    c.advertise.ensures ∙ ap turn_of (owner_starts a.primary a.r a.event (omega arith) (omega arith))
 
 pub returns-in-4864 : goal.returns-in-4864
 returns-in-4864 c =
@@ -22,7 +22,7 @@ returns-in-4864 c =
 pub returns-in-8960 : goal.returns-in-8960
 returns-in-8960 c =
     let a = c.args in
-    c.advertise.ensures ∙ ap turn_of (master_hears_farewell a.primary a.r a.event (omega arith) (omega arith))
+    c.advertise-in-8960.ensures ∙ ap turn_of (master_hears_farewell a.primary a.r a.event (omega arith) (omega arith))
 
 pub returns-in-0-to-254 : goal.returns-in-0-to-254
 returns-in-0-to-254 c =
@@ -37,7 +37,7 @@ returns-in-4352-to-4607 c =
 pub returns-in-4608-to-4863 : goal.returns-in-4608-to-4863
 returns-in-4608-to-4863 c =
     let a = c.args in
-    c.take_over-in-4608-to-4863.ensures ∙ ap turn_of (backup_fires a.primary a.r a.event (omega arith) (omega arith) (omega arith))
+    c.advertise-in-4608-to-4863.ensures ∙ ap turn_of (backup_fires a.primary a.r a.event (omega arith) (omega arith) (omega arith))
 
 pub returns-in-4865-to-5118 : goal.returns-in-4865-to-5118
 returns-in-4865-to-5118 c =
