@@ -1,5 +1,5 @@
 -- The virtual addresses that a call is given.
-use Rattle.std.specs.Prelude.{ℕ, ◌≡◌, List, Bool, true, false, Result, MatchResult}
+use Rattle.std.specs.Prelude.{ℕ, ◌≡◌, List, true, false, Result, MatchResult}
 use Rattle.wire.specs.declared.refusal.Refusal.{Refusal}
 use Rattle.wire.specs.declared.refusal.Refusal.TheVariants.{AddressBytes}
 use Rattle.writing.specs.Writing.{address_bytes_wrong}

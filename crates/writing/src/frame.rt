@@ -21,6 +21,7 @@ pub struct Advertisement<'a> {
 
 impl Advertisement<'_> {
     // The checksum of the header that we write: all of it is known but the total length and the primary address.
+    // By value: behind a `&` the range of the primary address is not stated.
     #[tactic(auto, using(crate::proofs::Checksums::header_sum))]
     fn header_checksum(self) -> u16
         ensures { result ≡ header_checksum self.entry.primary self.entry.addresses.bytes.now }
@@ -50,7 +51,7 @@ impl Advertisement<'_> {
         ]
     }
 
-    // The IPv4 header.
+    // The IPv4 header, by value as its checksum.
     fn ip_header(self) -> [u8; 20]
         ensures bytes { result ≡ header_of self.entry.primary self.entry.addresses.bytes.now }
         ensures long { 20 ≡ length result }
@@ -117,7 +118,7 @@ impl Advertisement<'_> {
 }
 
 // The addresses, or the first of refusals 14, 16, 17 and 22 of direct writing that holds.
-#[tactic(auto, unfolding(crate::specs::Writing::advertisement_refusal), using(crate::proofs::Writes::advertisement_passed))]
+#[tactic(auto, unfolding(crate::specs::Writing::advertisement_refusal))]
 fn advertisement_refusal(
     vrid: u8,
     interval: u8,
