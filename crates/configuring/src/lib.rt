@@ -1,7 +1,7 @@
 // An empty table, configuring and removing a virtual router.
 #![tactic(auto)]
 
-ghost use Rattle.std.specs.Prelude.{◌≡◌, ◌/◌, ◌≤◌, ◌<◌, length};
+ghost use Rattle.std.specs.Prelude.{◌≡◌, IfOk};
 ghost use Rattle.wire.specs.Refusal.{number_answered};
 ghost use Rattle.places.specs.Place.{set_record, place_of};
 ghost use Rattle.events.specs.Lists.{set_list};
@@ -12,7 +12,7 @@ use events::lists::put_list;
 use places::place::{Place, find, load, store};
 use states::record::{Counts, Router, State};
 use wire::refusal::Refusal;
-use writing::addresses::address_bytes_wrong;
+use writing::addresses::Addresses;
 
 // Every word 0 but the primary address.
 pub fn clear(words: &mut [u32; 4096], primary: u32)
@@ -39,11 +39,12 @@ pub struct Settings {
     pub preempt: bool,
 }
 
-// The first of refusals 14 to 17, if any: those that no table decides.
+// The addresses, or the first of refusals 14 to 17: those that no table decides.
 #[tactic(auto, unfolding(crate::specs::Configuring::settings_refusal))]
-pub fn settings_refusal(settings: Settings, addresses: &[u8]) -> Result<(), Refusal>
-    ensures { number_answered result ≡ settings_refusal settings.vrid settings.priority settings.interval
-        addresses.now }
+pub fn settings_refusal(settings: Settings, addresses: &[u8]) -> Result<Addresses<'_>, Refusal>
+    ensures refused { number_answered result ≡ settings_refusal settings.vrid settings.priority
+        settings.interval addresses.now }
+    ensures taken { IfOk result (λ list. list.bytes.now ≡ addresses.now) }
 {
     if settings.vrid == 0 {
         return Err(Refusal::VridZero);
@@ -54,29 +55,27 @@ pub fn settings_refusal(settings: Settings, addresses: &[u8]) -> Result<(), Refu
     if settings.interval == 0 {
         return Err(Refusal::IntervalZero);
     }
-    if address_bytes_wrong(addresses) {
-        return Err(Refusal::AddressBytes);
-    }
-    Ok(())
+    Addresses::try_from(addresses)
 }
 
-// The first of refusals 14 to 19, if any.
-fn configure_refusal(
+// The addresses, or the first of refusals 14 to 19.
+fn configure_refusal<'a>(
     words: &[u32; 4096],
     settings: Settings,
-    addresses: &[u8],
-) -> Result<(), Refusal>
-    ensures { number_answered result ≡ configure_refusal words.now settings.vrid settings.priority
+    addresses: &'a [u8],
+) -> Result<Addresses<'a>, Refusal>
+    ensures refused { number_answered result ≡ configure_refusal words.now settings.vrid settings.priority
         settings.interval addresses.now }
+    ensures taken { IfOk result (λ list. list.bytes.now ≡ addresses.now) }
 {
-    settings_refusal(settings, addresses)?;
+    let list = settings_refusal(settings, addresses)?;
     if is_taken(words, settings.vrid) {
         return Err(Refusal::VridTaken);
     }
     if !is_taken(words, 0) {
         return Err(Refusal::NoFreePlace);
     }
-    Ok(())
+    Ok(list)
 }
 
 // A router that was configured just now.
@@ -102,28 +101,19 @@ pub fn new_router(vrid: u8, priority: u8, interval: u8, preempt: bool, count: u8
     }
 }
 
-// Puts a new router and its address bytes at a place.
+// Puts a new router and its addresses at a place.
 fn fill(
     words: &mut [u32; 4096],
     lists: &mut [u8; 16320],
     place: Place,
     fresh: Router,
-    addresses: &[u8],
+    list: Addresses,
 )
-    requires { length addresses.now ≤ 64 }
     ensures words { words.new ≡ set_record words.old place fresh }
-    ensures lists { lists.new ≡ set_list lists.old place addresses.now }
+    ensures lists { lists.new ≡ set_list lists.old place list.entry.bytes.now }
 {
-    put_list(lists, place, addresses);
+    put_list(lists, place, list);
     store(words, place, fresh)
-}
-
-// How many addresses these bytes are.
-pub fn address_count(addresses: &[u8]) -> u8
-    requires { length addresses.now ≤ 64 }
-    ensures { result ≡ length addresses.now / 4 }
-{
-    (addresses.len() / 4) as u8
 }
 
 // Configures a virtual router at the lowest free place, or refuses by 14 to 19.
@@ -136,7 +126,7 @@ pub fn set_up(
     ensures { Configured words.old lists.old settings.vrid settings.priority settings.interval settings.preempt
         addresses.now (number_answered result) words.new lists.new }
 {
-    configure_refusal(words, settings, addresses)?;
+    let list = configure_refusal(words, settings, addresses)?;
     let place = find(words, 0).ok_or(Refusal::NoFreePlace)?;
     let Settings {
         vrid,
@@ -144,8 +134,8 @@ pub fn set_up(
         interval,
         preempt,
     } = settings;
-    let fresh = new_router(vrid, priority, interval, preempt, address_count(addresses));
-    fill(words, lists, place, fresh, addresses);
+    let fresh = new_router(vrid, priority, interval, preempt, list.count());
+    fill(words, lists, place, fresh, list);
     Ok(())
 }
 

@@ -4,16 +4,19 @@ ghost use Rattle.events.specs.Lists.{list_at, lists_match, set_list};
 
 use places::place::Place;
 use rooms::put;
+use writing::addresses::Addresses;
 
-// The address bytes of a place that has so many addresses.
+// The addresses of a place that has so many.
 #[tactic(auto, unfolding(crate::specs::Lists::list_at))]
-pub fn list_at(lists: &[u8; 16320], place: Place, count: u8) -> &[u8]
+pub fn list_at(lists: &[u8; 16320], place: Place, count: u8) -> Addresses<'_>
     requires { count ≤ 16 }
-    ensures bytes { result.now ≡ list_at lists.now place count }
-    ensures len { length result.now ≡ 4 * count }
+    ensures bytes { result.bytes.now ≡ list_at lists.now place count }
+    ensures len { length result.bytes.now ≡ 4 * count }
 {
     let start = 64 * place.index();
-    &lists[start..start + 4 * usize::from(count)]
+    Addresses {
+        bytes: &lists[start..start + 4 * usize::from(count)],
+    }
 }
 
 // Whether two address lists have the same count, the same addresses and the same order.
@@ -26,9 +29,8 @@ pub fn lists_match(ours: &[u8], theirs: &[u8]) -> bool
 
 // Puts the address bytes of a place into the lists.
 #[tactic(auto, unfolding(crate::specs::Lists::set_list))]
-pub fn put_list(lists: &mut [u8; 16320], place: Place, addresses: &[u8])
-    requires { length addresses.now ≤ 64 }
-    ensures { lists.new ≡ set_list lists.old place addresses.now }
+pub fn put_list(lists: &mut [u8; 16320], place: Place, addresses: Addresses)
+    ensures { lists.new ≡ set_list lists.old place addresses.entry.bytes.now }
 {
-    put(lists, 64 * place.index(), addresses)
+    put(lists, 64 * place.index(), addresses.bytes)
 }

@@ -36,7 +36,7 @@ fn refusal_of(s: Station, packet: &[u8], fields: Fields) -> Result<(), Refusal>
     ensures { number_answered result ≡ refusal_by s packet.now fields }
 {
     let theirs = &packet[fields.list..fields.list + 4 * usize::from(fields.count)];
-    router_refusal(s.router, fields, lists_match(s.list(), theirs))
+    router_refusal(s.router, fields, lists_match(s.list().bytes, theirs))
 }
 
 // A judged packet: 9 where it is for another virtual router, or no router is there; else the router hears it.

@@ -29,7 +29,7 @@ fn refusal_at(
     ensures { number_answered result ≡ refusal_at words.now lists.now place heard.entry.packet.now heard.entry.fields }
 {
     let own = load(words, place);
-    let same = lists_match(list_at(lists, place, own.count), heard.list());
+    let same = lists_match(list_at(lists, place, own.count).bytes, heard.list());
     router_refusal(own, heard.fields, same)
 }
 

@@ -92,7 +92,7 @@ pub fn pass(s: Station, ticks: u32) -> Station
             addresses: s.list(),
         };
         advertisement.put(&mut after.frame);
-        after.sent = 50 + advertisement.addresses.len();
+        after.sent = 50 + advertisement.addresses.bytes.len();
     }
     after
 }

@@ -35,7 +35,7 @@ pub fn act(s: Station, outcome: Outcome, leftover: u32, out: &mut [u8]) -> Stepp
             answer,
         };
     }
-    let sent = 50 + list.len();
+    let sent = 50 + list.bytes.len();
     Stepped {
         station: after.with_frame(&out[..sent]),
         answer,

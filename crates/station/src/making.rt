@@ -1,12 +1,13 @@
 // A station just configured.
-ghost use Rattle.std.specs.Prelude.{◌≡◌, ◌≤◌, length};
+ghost use Rattle.std.specs.Prelude.{◌≡◌};
 ghost use Rattle.station.specs.Station.{station_of};
 ghost use Rattle.station.specs.Making.{Makes, addresses_in, made_of};
 
 use crate::station::{Station, Stepped};
-use configuring::{Settings, address_count, new_router, settings_refusal};
+use configuring::{Settings, new_router, settings_refusal};
 use events::answer::Done;
 use states::record::Router;
+use writing::addresses::Addresses;
 
 // A station that has counted and sent nothing.
 fn station_of(primary: u32, router: Router, addresses: [u8; 64]) -> Station
@@ -23,12 +24,11 @@ fn station_of(primary: u32, router: Router, addresses: [u8; 64]) -> Station
 }
 
 // The virtual addresses in a station's 64 bytes.
-fn addresses_in(addresses: &[u8]) -> [u8; 64]
-    requires { length addresses.now ≤ 64 }
-    ensures { result ≡ addresses_in addresses.now }
+fn addresses_in(list: Addresses) -> [u8; 64]
+    ensures { result ≡ addresses_in list.entry.bytes.now }
 {
     let mut own = [0; 64];
-    own[..addresses.len()].copy_from_slice(addresses);
+    own[..list.bytes.len()].copy_from_slice(list.bytes);
     own
 }
 
@@ -49,19 +49,23 @@ pub fn new_station(
         interval,
         preempt,
     };
-    if let Err(refusal) = settings_refusal(settings, addresses) {
-        let none = new_router(0, 0, 0, false, 0);
-        return Stepped {
-            station: station_of(primary, none, [0; 64]),
-            answer: Err(refusal),
-        };
-    }
-    let fresh = new_router(vrid, priority, interval, preempt, address_count(addresses));
-    Stepped {
-        station: station_of(primary, fresh, addresses_in(addresses)),
-        answer: Ok(Done {
-            written: 0,
-            leftover: 0,
-        }),
+    match settings_refusal(settings, addresses) {
+        Ok(list) => {
+            let fresh = new_router(vrid, priority, interval, preempt, list.count());
+            Stepped {
+                station: station_of(primary, fresh, addresses_in(list)),
+                answer: Ok(Done {
+                    written: 0,
+                    leftover: 0,
+                }),
+            }
+        }
+        Err(refusal) => {
+            let none = new_router(0, 0, 0, false, 0);
+            Stepped {
+                station: station_of(primary, none, [0; 64]),
+                answer: Err(refusal),
+            }
+        }
     }
 }

@@ -1,10 +1,11 @@
 // What a station is, and what a step on it comes to.
-ghost use Rattle.std.specs.Prelude.{◌≡◌, ◌%◌, ◌≤◌, length};
+ghost use Rattle.std.specs.Prelude.{◌≡◌, ◌≤◌, length};
 ghost use Rattle.station.specs.Station.{list_of, with_frame};
 
 use events::answer::Done;
 use states::record::Router;
 use wire::refusal::Refusal;
+use writing::addresses::Addresses;
 
 #[derive(Clone, Copy)]
 pub struct Station {
@@ -25,12 +26,12 @@ pub struct Station {
 impl Station {
     // Its virtual addresses.
     #[tactic(auto, unfolding(crate::specs::Station::list_of))]
-    pub fn list(&self) -> &[u8]
-        ensures list { result.now ≡ list_of self.now }
-        ensures whole { length result.now % 4 ≡ 0 }
-        ensures most { length result.now ≤ 64 }
+    pub fn list(&self) -> Addresses<'_>
+        ensures { result.bytes.now ≡ list_of self.now }
     {
-        &self.addresses[..4 * usize::from(self.router.count % 17)]
+        Addresses {
+            bytes: &self.addresses[..4 * usize::from(self.router.count % 17)],
+        }
     }
 
     // The station with these bytes as its latest advertisement frame.

@@ -1,3 +1,4 @@
 pub mod Frame
 pub mod Arp
 pub mod Writing
+pub mod Given

@@ -10,4 +10,4 @@ unfolding refusal_by their_list
 returns c =
     let f = c.args.fields in
     let theirs : f.list + 4 * f.count - f.list ≡ 4 * f.count = omega arith in
-    c.router_refusal.ensures ∙ rw (c.lists_match.ensures, c.list.ensures.list, c.from.ensures, theirs)
+    c.router_refusal.ensures ∙ rw (c.lists_match.ensures, c.list.ensures, c.from.ensures, theirs)

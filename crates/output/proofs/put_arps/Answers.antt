@@ -31,18 +31,18 @@ loop-k-preserved c =
     let tail = c.next.new.self.iter.rest.now in
     let n = c.in-Some.ensures.steps in
     let whole : length chunk ≡ 4 = n.0.1.1 ∙ l.size in
-    let left : drop (4 * k) a.list.now ≡ chunk ++ tail = sym l.left ∙ n.0.1.0 in
+    let left : drop (4 * k) a.list.bytes.now ≡ chunk ++ tail = sym l.left ∙ n.0.1.0 in
     let address : c.from_be_bytes-address.result ≡ number_of (get_or chunk 0 0) (get_or chunk 1 0) (get_or chunk 2 0) (get_or chunk 3 0) =
     omega arith in
     let next : c.next.new.self.count ≡ k + 1 = n.2 in
     let here : c.in-Some.k ≡ k = n.1 in
     record {
       size = n.0.0 ∙ l.size;
-      left = rw next (left_after a.list.now chunk tail k whole left);
-      within = rw next (within a.list.now chunk tail k whole left l.within);
+      left = rw next (left_after a.list.bytes.now chunk tail k whole left);
+      within = rw next (within a.list.bytes.now chunk tail k whole left l.within);
       written =
           rw (next, here)
-          (arps_turn a.list.now chunk tail k whole left a.vrid _ a.room.now c.loop-k.room _ l.within l.written
+          (arps_turn a.list.bytes.now chunk tail k whole left a.vrid _ a.room.now c.loop-k.room _ l.within l.written
           address (rw here at c.put_arp.ensures));
       long = search rules;
     }

@@ -9,8 +9,8 @@ abbrev pub invariant-loop-k : goal.invariant-loop-k
 invariant-loop-k l =
     record {
       size : l.k-iterator.iter.size ≡ 4;
-      left : l.k-iterator.iter.rest.now ≡ drop (4 * l.k-iterator.count) l.list;
-      within : 4 * l.k-iterator.count ≤ length l.list;
-      written : l.room ≡ over (arps_of l.vrid (take (4 * l.k-iterator.count) l.list)) l.initial.room;
+      left : l.k-iterator.iter.rest.now ≡ drop (4 * l.k-iterator.count) l.list.bytes.now;
+      within : 4 * l.k-iterator.count ≤ length l.list.bytes.now;
+      written : l.room ≡ over (arps_of l.vrid (take (4 * l.k-iterator.count) l.list.bytes.now)) l.initial.room;
       long : length l.room ≡ length l.initial.room;
     }

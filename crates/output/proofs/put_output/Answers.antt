@@ -13,7 +13,7 @@ pub returns-in-Takeover : goal.returns-in-Takeover
 returns-in-Takeover c =
     let a = c.args in
     let r = a.r in
-    let list = a.list.now in
+    let list = a.list.bytes.now in
     let room = a.room.now in
     let frame = frame_of r.vrid r.priority r.interval a.primary list in
     part_behind frame (arps_of r.vrid list) room _ _ (50 + length list) c.put-in-Takeover.ensures

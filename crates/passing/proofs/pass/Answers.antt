@@ -12,7 +12,7 @@ returns-then-due c =
     let s = c.args.s in
     let own = s.router in
     let long : length s.addresses ≡ 64 = search rules in
-    let list = c.list.ensures.list in
+    let list = c.list.ensures in
     passed_due s long c.args.ticks _ _ _ c.elapsed.ensures
     (rw (ne_eqb own.vrid 0 c.if-own-ne0.true, ← c.due.ensures) c.if-due.true)
     (c.put.ensures

@@ -9,7 +9,7 @@ use Rattle.writing.proofs.frame.Advertisement.put.Goals as goal
 
 pub returns : goal.returns
 returns c =
-    let addresses = c.args.self.now.addresses.now in
+    let addresses = c.args.self.now.addresses.bytes.now in
     let e = c.ethernet_head.ensures in
     let h = c.ip_header.ensures in
     let m = c.message_head.ensures in
