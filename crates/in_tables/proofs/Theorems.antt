@@ -32,7 +32,7 @@ use Rattle.station.specs.Acting.{written_by, needed_by, kept_by, acted_by}
 use Rattle.hearing.specs.Hearing.{counted_by, refusal_by, accepted_outcome, accepted_by, judged_by, heard_by}
 use Rattle.steps.specs.Steps.{happened_to, clocked_by, delivered_to}
 use Rattle.in_tables.specs.Tables.{words_of, lists_of, in_table, WellFormed}
-use Rattle.in_tables.specs.Theorems.{OneStep, EventInTable, ClockInTable, PacketInTable, DeliveryInTable}
+use Rattle.in_tables.specs.Theorems.{OneStep, OneMaking, EventInTable, ClockInTable, PacketInTable, DeliveryInTable}
 use Rattle.in_tables.specs.Theorems.{NoneInTable}
 use Rattle.station.proofs.Arrays.{list_length}
 use Rattle.in_tables.proofs.Tables.{event_first, refused_first, first_record, primary_is, found_first, nothing_else}
@@ -43,6 +43,12 @@ one_step result a b room other x y =
     let answers = one_answer a.answer b.answer (x.answer_is ∙ sym y.answer_is) in
     let stations = x.station_is ∙ sym y.station_is in
     (λ i. record { station = stations i; answer = answers i }, x.room_is ∙ sym y.room_is)
+
+pub one_making : OneMaking
+one_making made a b x y =
+    let answers = one_answer a.answer b.answer (x.answer_is ∙ sym y.answer_is) in
+    let stations = x.station_is ∙ sym y.station_is in
+    λ i. record { station = stations i; answer = answers i }
 
 pub none_in_table : NoneInTable
 none_in_table s v w z = nothing_else s w (router_place (words_of s) v) v (λ same. same ∙ z) refl

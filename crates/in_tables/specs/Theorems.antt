@@ -14,7 +14,7 @@ use Rattle.packets.specs.Packets.{heard_of}
 use Rattle.station.specs.declared.station.Station.{Station}
 use Rattle.station.specs.declared.station.Stepped.{Stepped}
 use Rattle.station.specs.Station.{Result, Leaves, has_router, list_of, packet_of}
-use Rattle.station.specs.Making.{station_refusal, made_of}
+use Rattle.station.specs.Making.{Made, Makes, station_refusal, made_of}
 use Rattle.station.specs.Acting.{needed_by, kept_by}
 use Rattle.hearing.specs.Hearing.{heard_by}
 use Rattle.steps.specs.Steps.{happened_to, clocked_by, delivered_to}
@@ -26,6 +26,10 @@ abbrev pub OneStep : Type 0
 OneStep =
     (result : Result) (a b : Stepped) (room other : List ℕ) → Leaves result a room → Leaves result b other
     → (a ≡ b) × (room ≡ other)
+
+-- the same of making a station
+abbrev pub OneMaking : Type 0
+OneMaking = (made : Made) (a b : Stepped) → Makes made a → Makes made b → a ≡ b
 
 -- "Each station is a table of one router": startup and shutdown leave what the table's call leaves
 abbrev pub EventInTable : Type 0
