@@ -61,6 +61,7 @@ fn hear_judged(s: Station, packet: &[u8], fields: Fields, out: &mut [u8]) -> Ste
 }
 
 // A packet of any bytes: done, or the first of refusals 1 to 13 and 22.
+// Kept: apart from `packets::hear`, which changes lent words in place: `PacketInTable` says that both leave the same.
 pub fn hear(s: Station, packet: &[u8], out: &mut [u8]) -> Stepped
     ensures { Leaves (heard_by s packet.now out.old) result out.new }
 {

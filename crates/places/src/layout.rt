@@ -6,6 +6,7 @@ use states::record::{Counts, Router, State};
 use states::step::state_number;
 
 // The state that a word stands for: 0 is Initialize, 1 Backup, and every other Master.
+// Kept: no `From`, which only the crate of `State` could have, and that knows of no words.
 #[tactic(auto, unfolding(crate::specs::Layout::state_of))]
 pub fn state_of(word: u32) -> State
     ensures { result ≡ state_of word }
@@ -32,6 +33,7 @@ fn decode_counts(s: &[u32]) -> Counts
 }
 
 // The record that 16 words hold: every word decodes to something.
+// Kept: a byte by its remainder, as `decode_of` has it: of a number that is no byte a conversion would answer an error.
 #[tactic(auto, unfolding(crate::specs::Layout::decode_of))]
 pub fn decode(s: &[u32]) -> Router
     requires { length s.now ≡ 16 }

@@ -9,6 +9,7 @@ use states::step::Outcome;
 use wire::refusal::Refusal;
 
 // Writes the frames of an outcome and keeps the advertisement, or tells how much room they need.
+// Kept: apart from `events::acting::act`, which changes lent words in place: `EventInTable` says that both leave the same.
 pub fn act(s: Station, outcome: Outcome, leftover: u32, out: &mut [u8]) -> Stepped
     ensures { Leaves (acted_by s outcome leftover out.old) result out.new }
 {

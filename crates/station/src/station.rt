@@ -35,7 +35,7 @@ impl Station {
     }
 
     // The station with these bytes as its latest advertisement frame.
-    pub fn with_frame(self, bytes: &[u8]) -> Station
+    pub(crate) fn with_frame(self, bytes: &[u8]) -> Station
         requires { length bytes.now ≤ 114 }
         ensures { result ≡ with_frame self bytes.now }
     {
