@@ -26,8 +26,7 @@ fn put_letters(out: &mut [u8], at: usize, stations: &[Station; 16], used: usize)
 }
 
 // Puts the line of a record that was taken.
-// Kept: each line asks for 32 bytes by a `requires`: as an array of 32 the room would leave out what stands behind it, of
-// which `Printed` speaks.
+// Kept: 32 bytes by a `requires`, since an array of 32 leaves out what stands behind it, of which `Printed` speaks.
 fn put_line(out: &mut [u8], number: u32, progress: &Progress) -> usize
     requires { 32 ≤ length out.old }
     ensures { Printed (line_of number (segment_in progress.now)) out.old result out.new }
