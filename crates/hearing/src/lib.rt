@@ -1,13 +1,14 @@
 // A packet that is handed over to a station.
 #![tactic(auto)]
 
-ghost use Rattle.std.specs.Prelude.{◌≡◌, ◌+◌, ◌*◌, ◌≤◌, length, Err};
+ghost use Rattle.std.specs.Prelude.{◌≡◌, ◌≤◌, Err};
 ghost use Rattle.wire.specs.Refusal.{refusal_number, number_answered};
 ghost use Rattle.station.specs.Station.{Leaves};
 ghost use Rattle.hearing.specs.Hearing.{counted_by, refusal_by, sought_by, heard_by};
 
+use events::heard::Heard;
 use events::lists::lists_match;
-use judging::{Fields, judge};
+use judging::judge;
 use router::accept::{count_accepted, count_refusal, router_refusal};
 use states::step::{Event, step};
 use station::acting::act;
@@ -31,23 +32,25 @@ fn refuse(s: Station, refusal: Refusal) -> Stepped
 }
 
 // The first of refusals 10 to 13 that a station's router gives a packet.
-fn refusal_of(s: Station, packet: &[u8], fields: Fields) -> Result<(), Refusal>
-    requires { fields.list + 4 * fields.count ≤ length packet.now }
-    ensures { number_answered result ≡ refusal_by s packet.now fields }
+fn refusal_of(s: Station, heard: Heard) -> Result<(), Refusal>
+    ensures { number_answered result ≡ refusal_by s heard.entry.packet.now heard.entry.fields }
 {
-    let theirs = &packet[fields.list..fields.list + 4 * usize::from(fields.count)];
-    router_refusal(s.router, fields, lists_match(s.list().bytes, theirs))
+    router_refusal(
+        s.router,
+        heard.fields,
+        lists_match(s.list().bytes, heard.list()),
+    )
 }
 
 // A judged packet: 9 where it is for another virtual router, or no router is there; else the router hears it.
-fn hear_judged(s: Station, packet: &[u8], fields: Fields, out: &mut [u8]) -> Stepped
-    requires { fields.list + 4 * fields.count ≤ length packet.now }
-    ensures { Leaves (sought_by s packet.now fields out.old) result out.new }
+fn hear_judged(s: Station, heard: Heard, out: &mut [u8]) -> Stepped
+    ensures { Leaves (sought_by s heard.entry.packet.now heard.entry.fields out.old) result out.new }
 {
+    let fields = heard.fields;
     if s.router.vrid == 0 || fields.vrid != s.router.vrid {
         return refuse(s, Refusal::UnknownVrid);
     }
-    if let Err(refusal) = refusal_of(s, packet, fields) {
+    if let Err(refusal) = refusal_of(s, heard) {
         return Stepped {
             station: Station {
                 router: count_refusal(s.router, refusal),
@@ -66,7 +69,7 @@ pub fn hear(s: Station, packet: &[u8], out: &mut [u8]) -> Stepped
     ensures { Leaves (heard_by s packet.now out.old) result out.new }
 {
     match judge(packet) {
-        Ok(fields) => hear_judged(s, packet, fields, out),
+        Ok(fields) => hear_judged(s, Heard { packet, fields }, out),
         Err(refusal) => refuse(s, refusal),
     }
 }

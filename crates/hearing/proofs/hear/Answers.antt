@@ -8,8 +8,8 @@ use Rattle.station.proofs.Acted.{leaves_equal}
 use Rattle.hearing.specs.Hearing.{heard_by}
 use Rattle.hearing.proofs.hear.Goals as goal
 
-pub hear_judged-requires : goal.hear_judged-requires
-hear_judged-requires c = list_inside c.args.packet.now _ c.in-Ok.ensures
+pub invariant_of-hear_judged : goal.invariant_of-hear_judged
+invariant_of-hear_judged c = record { listed = list_inside c.args.packet.now _ c.in-Ok.ensures }
 
 pub refuse-requires : goal.refuse-requires
 refuse-requires c = omega (arith, refused_most c.args.packet.now _ c.in-Err.ensures)
