@@ -24,11 +24,18 @@ use Rattle.script.specs.Script.{lines_from, rehearsal_of}
 use Rattle.script.specs.Progress.{started, exhausted, segment_in, progress_in}
 use Rattle.turns.specs.Turn.{ends, record_step, step_of}
 use Rattle.rehearsal.specs.Run.{due_of, left_of, stops_at, Runs, stops, goes}
-use Rattle.pieces.specs.Theorems.{OnePrinted, OneRun, RunDue, RunFalls, RunWithin, Pieces, done, piece, PiecesTogether}
+use Rattle.pieces.specs.Theorems.{OnePrinted, OneTurn, OneRun, RunDue, RunFalls, RunWithin, Pieces, done, piece, PiecesTogether}
 use Rattle.rehearsal.proofs.Stepping.{left_falls, over_long}
 
 pub one_printed : OnePrinted
 one_printed text before a b after other x y = (x.written_is ∙ sym y.written_is, x.room_is ∙ sym y.room_is)
+
+pub one_turn : OneTurn
+one_turn script p a b x y = (
+  x.found_is ∙ sym y.found_is,
+  x.number_is ∙ sym y.number_is,
+  ap (λ (q : Progress). q.reading) (x.turn_is.progress_is ∙ sym y.turn_is.progress_is),
+)
 
 -- a run has one text and one end
 never : {A : Type 0} (t : Bool) → t ≡ true → t ≡ false → A

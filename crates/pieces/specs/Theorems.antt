@@ -1,10 +1,12 @@
 -- The theorems of this crate, as statements: each is proved under the same name in proofs/Theorems.antt.
 use Rattle.std.specs.Prelude.{ℕ, ◌≤◌, ◌<◌, ◌≡◌, true, false, List, [], ◌++◌, length, take}
 use Rattle.script.specs.declared.progress.Progress.{Progress}
+use Rattle.turns.specs.declared.Turn.{Turn}
 use Rattle.rehearsal.specs.declared.Ran.{Ran}
 use Rattle.script.specs.Lines.{Printed}
 use Rattle.script.specs.Script.{rehearsal_of}
 use Rattle.script.specs.Progress.{started}
+use Rattle.turns.specs.Turn.{Turns, step_of, told_of, found_in, number_in}
 use Rattle.rehearsal.specs.Run.{due_of, left_of, RunLeaves}
 
 -- two outcomes that the promise of a line allows are equal
@@ -12,6 +14,18 @@ abbrev pub OnePrinted : Type 0
 OnePrinted =
     (text before : List ℕ) (a b : ℕ) (after other : List ℕ) → Printed text before a after → Printed text before b other
     → (a ≡ b) × (after ≡ other)
+
+-- what the promise of a turn says
+pub record TurnOf (script : List ℕ) (p : Progress) (turn : Turn) : Type 0 where
+  pub turn_is : Turns p (step_of script p) turn
+  pub found_is : told_of turn.found ≡ found_in script p
+  pub number_is : turn.number ≡ number_in script p
+
+-- two outcomes that the promise of a turn allows are equal in what they tell
+abbrev pub OneTurn : Type 0
+OneTurn =
+    (script : List ℕ) (p : Progress) (a b : Turn) → TurnOf script p a → TurnOf script p b
+    → (told_of a.found ≡ told_of b.found) × (a.number ≡ b.number) × (a.reading ≡ b.reading)
 
 -- two outcomes that the promise of a run allows are equal
 abbrev pub OneRun : Type 0

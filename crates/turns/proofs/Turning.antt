@@ -29,7 +29,7 @@ use Rattle.script.specs.Checks.{record_checks, kind_checks}
 use Rattle.script.specs.Record.{after_record, refusal_of}
 use Rattle.script.specs.Lines.{refused_line}
 use Rattle.script.specs.Progress.{exhausted, segment_of, segment_in, read_in, new_number}
-use Rattle.turns.specs.Turn.{ends, record_step, step_of, Turns}
+use Rattle.turns.specs.Turn.{ends, record_step, step_of, Turns, record_found, found_in, number_in}
 
 -- what a record that is not refused has passed
 module _ (segment : Segment) (kind : Option Kind) (body : List ℕ) (e : refusal_of segment kind body ≡ 0) where
@@ -82,18 +82,42 @@ module _ (script : List ℕ) (here : Progress) where
   unfolding step_of
   step_long h = rw (lt-ltb 65536 (length script) h)
 
+  pub found_long : 65536 < length script → Err 30 ≡ found_in script here
+  unfolding found_in
+  found_long h = rw (lt-ltb 65536 (length script) h)
+
+  pub number_long : 65536 < length script → 0 ≡ number_in script here
+  unfolding number_in
+  number_long h = rw (lt-ltb 65536 (length script) h)
+
   module _ (fits : length script ≤ 65536) where
     step_ends : exhausted script here ≡ true → step_of script here ≡ ends here []
     unfolding step_of
     step_ends t = rw (le-ltb 65536 (length script) fits, t)
 
+    found_ends : exhausted script here ≡ true → Ok None ≡ found_in script here
+    unfolding found_in
+    found_ends t = rw (le-ltb 65536 (length script) fits, t)
+
+    pub number_here : here.reading.number ≡ number_in script here
+    unfolding number_in
+    number_here = rw (le-ltb 65536 (length script) fits)
+
     pub step_none : length script ≤ here.reading.at → step_of script here ≡ ends here []
     step_none h = step_ends (rw (le-leb (length script) here.reading.at h))
+
+    pub found_none : length script ≤ here.reading.at → Ok None ≡ found_in script here
+    found_none h = found_ends (rw (le-leb (length script) here.reading.at h))
 
     module _ (more : here.reading.at < length script) where
       pub step_misplaced : here.reading.at + 1 < here.reading.number → step_of script here ≡ ends here []
       step_misplaced h =
           step_ends
+          (rw (lt-leb (length script) here.reading.at more, lt-ltb (here.reading.at + 1) here.reading.number h))
+
+      pub found_misplaced : here.reading.at + 1 < here.reading.number → Ok None ≡ found_in script here
+      found_misplaced h =
+          found_ends
           (rw (lt-leb (length script) here.reading.at more, lt-ltb (here.reading.at + 1) here.reading.number h))
 
       module _ (placed : here.reading.number ≤ here.reading.at + 1) where
@@ -113,6 +137,27 @@ module _ (script : List ℕ) (here : Progress) where
               lt-leb (length script) here.reading.at more,
               le-ltb (here.reading.at + 1) here.reading.number placed,
             )
+
+        found_goes : found_in script here ≡ record_found here kind body
+        unfolding found_in
+        found_goes =
+            rw (
+              take_all (length script - (here.reading.at + 1)) (drop (here.reading.at + 1) script)
+                  (omega (arith, length-drop (here.reading.at + 1) script)),
+              le-ltb 65536 (length script) fits,
+              lt-leb (length script) here.reading.at more,
+              le-ltb (here.reading.at + 1) here.reading.number placed,
+            )
+
+        pub found_refused : (refusal : Refusal) → refusal_number refusal ≡ refusal_of (segment_in here) kind body
+            → Err (refusal_number refusal) ≡ found_in script here
+        found_refused refusal e =
+            let some = (within refusal).0 in
+            rw (found_goes, ← e, ne_eqb (refusal_number refusal) 0 (λ z. absurd (omega arith))) refl
+
+        pub found_taken : (taken : Record) → 0 ≡ refusal_of (segment_in here) kind body → Some taken.kind ≡ kind
+            → taken.body.now ≡ body → Ok (Some (taken.kind, taken.body.now)) ≡ found_in script here
+        found_taken taken e k b = rw (found_goes, ← e, ← k, ← b) refl
 
         pub turn_refused : (refusal : Refusal) → refusal_number refusal ≡ refusal_of (segment_in here) kind body
             → Turns here (step_of script here)

@@ -58,3 +58,30 @@ progress_left turn p = record { stations = stations_left turn.found (segment_in 
 pub record Turns (p : Progress) (step : Step) (turn : Turn) : Type 0 where
   pub progress_is : progress_left turn p ≡ step.progress
   pub line_is : line_left turn.found turn.number (segment_in step.progress) ≡ step.line
+
+-- what was found, in the rules' numbers: a record's kind and the bytes after the kind, or what refuses it
+abbrev pub told_of : Result (Option Record) Refusal → Result (Option (Kind × List ℕ)) ℕ
+told_of (Ok (Some taken)) = Ok (Some (taken.kind, taken.body.now))
+told_of (Ok None) = Ok None
+told_of (Err refusal) = Err (refusal_number refusal)
+
+-- the record of this kind, which is not refused
+abbrev pub record_in : Option Kind → List ℕ → Option (Kind × List ℕ)
+record_in None body = None
+record_in (Some kind) body = Some (kind, body)
+
+-- the record of this kind: found, or refused
+abbrev pub record_found : Progress → Option Kind → List ℕ → Result (Option (Kind × List ℕ)) ℕ
+record_found p kind body =
+    cond (eqb (refusal_of (segment_in p) kind body) 0) (Ok (record_in kind body)) (Err (refusal_of (segment_in p) kind body))
+
+-- the record that is next, none at the end, or what refuses it
+unfoldable pub found_in : List ℕ → Progress → Result (Option (Kind × List ℕ)) ℕ
+found_in script p =
+    cond (ltb 65536 (length script)) (Err 30)
+    (cond (exhausted script p) (Ok None)
+    (record_found p (kind_of (get_or script p.reading.at 0)) (drop (p.reading.at + 1) script)))
+
+-- the number that its line begins with
+unfoldable pub number_in : List ℕ → Progress → ℕ
+number_in script p = cond (ltb 65536 (length script)) 0 p.reading.number

@@ -4,7 +4,7 @@
 ghost use Rattle.std.specs.Prelude.{◌≡◌, ◌≤◌, length};
 ghost use Rattle.script.specs.Lines.{Printed};
 ghost use Rattle.script.specs.Progress.{segment_in};
-ghost use Rattle.turns.specs.Turn.{Turns, step_of, progress_left, line_left};
+ghost use Rattle.turns.specs.Turn.{Turns, step_of, progress_left, line_left, told_of, found_in, number_in};
 
 use printing::{put_printed, put_refused};
 use refusing::taken_record;
@@ -24,7 +24,9 @@ pub struct Turn<'a> {
 
 // The next record, or the end.
 pub fn turn_of<'a>(script: &'a [u8], progress: &Progress) -> Turn<'a>
-    ensures { Turns progress.now (step_of script.now progress.now) result }
+    ensures turn { Turns progress.now (step_of script.now progress.now) result }
+    ensures found { told_of result.found ≡ found_in script.now progress.now }
+    ensures number { result.number ≡ number_in script.now progress.now }
 {
     let reading = progress.reading;
     let end = Turn {

@@ -9,12 +9,12 @@ use Rattle.rehearsal.proofs.run.Goals as goal
 pub loop-now-smaller : goal.loop-now-smaller
 loop-now-smaller c =
     left_less c.args.script.now c.loop-now.now _ c.loop-now-test.true
-    (turn_progress c.turn_of-turn.ensures c.advance.ensures)
+    (turn_progress c.turn_of-turn.ensures.turn c.advance.ensures)
 
 pub loop-now-preserved : goal.loop-now-preserved
 loop-now-preserved c =
     let loop = c.loop-now in
-    let turned = c.turn_of-turn.ensures in
+    let turned = c.turn_of-turn.ensures.turn in
     let moved = c.advance.ensures in
     turn loop.invariant _ _ _
     (goes_on loop.now (length loop.out - loop.written) c.loop-now-test.true (omega arith))
