@@ -99,9 +99,12 @@ module _ (script : List ℕ) (here : Progress) where
     unfolding found_in
     found_ends t = rw (le-ltb 65536 (length script) fits, t)
 
-    pub number_here : here.reading.number ≡ number_in script here
+    number_ends : exhausted script here ≡ true → 0 ≡ number_in script here
     unfolding number_in
-    number_here = rw (le-ltb 65536 (length script) fits)
+    number_ends t = rw (le-ltb 65536 (length script) fits, t)
+
+    pub number_none : length script ≤ here.reading.at → 0 ≡ number_in script here
+    number_none h = number_ends (rw (le-leb (length script) here.reading.at h))
 
     pub step_none : length script ≤ here.reading.at → step_of script here ≡ ends here []
     step_none h = step_ends (rw (le-leb (length script) here.reading.at h))
@@ -113,6 +116,11 @@ module _ (script : List ℕ) (here : Progress) where
       pub step_misplaced : here.reading.at + 1 < here.reading.number → step_of script here ≡ ends here []
       step_misplaced h =
           step_ends
+          (rw (lt-leb (length script) here.reading.at more, lt-ltb (here.reading.at + 1) here.reading.number h))
+
+      pub number_misplaced : here.reading.at + 1 < here.reading.number → 0 ≡ number_in script here
+      number_misplaced h =
+          number_ends
           (rw (lt-leb (length script) here.reading.at more, lt-ltb (here.reading.at + 1) here.reading.number h))
 
       pub found_misplaced : here.reading.at + 1 < here.reading.number → Ok None ≡ found_in script here
@@ -133,6 +141,15 @@ module _ (script : List ℕ) (here : Progress) where
             rw (
               take_all (length script - (here.reading.at + 1)) (drop (here.reading.at + 1) script)
                   (omega (arith, length-drop (here.reading.at + 1) script)),
+              le-ltb 65536 (length script) fits,
+              lt-leb (length script) here.reading.at more,
+              le-ltb (here.reading.at + 1) here.reading.number placed,
+            )
+
+        pub number_here : here.reading.number ≡ number_in script here
+        unfolding number_in
+        number_here =
+            rw (
               le-ltb 65536 (length script) fits,
               lt-leb (length script) here.reading.at more,
               le-ltb (here.reading.at + 1) here.reading.number placed,

@@ -82,6 +82,6 @@ found_in script p =
     (cond (exhausted script p) (Ok None)
     (record_found p (kind_of (get_or script p.reading.at 0)) (drop (p.reading.at + 1) script)))
 
--- the number that its line begins with
+-- the number that its line begins with, 0 where that is no record's
 unfoldable pub number_in : List ℕ → Progress → ℕ
-number_in script p = cond (ltb 65536 (length script)) 0 p.reading.number
+number_in script p = cond (ltb 65536 (length script)) 0 (cond (exhausted script p) 0 p.reading.number)

@@ -31,7 +31,7 @@ pub fn turn_of<'a>(script: &'a [u8], progress: &Progress) -> Turn<'a>
     let reading = progress.reading;
     let end = Turn {
         found: Ok(None),
-        number: reading.number,
+        number: 0,
         reading: Reading {
             done: true,
             ..reading
@@ -40,7 +40,6 @@ pub fn turn_of<'a>(script: &'a [u8], progress: &Progress) -> Turn<'a>
     if script.len() > 65536 {
         return Turn {
             found: Err(Refusal::ScriptTooLong),
-            number: 0,
             ..end
         };
     }
@@ -51,11 +50,12 @@ pub fn turn_of<'a>(script: &'a [u8], progress: &Progress) -> Turn<'a>
     match taken_record(progress, script[at], &script[at + 1..]) {
         Ok(taken) => Turn {
             found: Ok(Some(taken)),
+            number: reading.number,
             reading: reading_after(reading, taken),
-            ..end
         },
         Err(refusal) => Turn {
             found: Err(refusal),
+            number: reading.number,
             ..end
         },
     }

@@ -5,7 +5,7 @@ use Prim.Native.Nat.{◌≤◌}
 use native.Mathlib.Omega.{arith}
 use lib.ListN.{length}
 use Rattle.script.specs.Progress.{segment_in}
-use Rattle.turns.proofs.Turning.{number_fits, step_long, step_none, step_misplaced, turn_refused, turn_taken, found_long, number_long, found_none, number_here, found_misplaced, found_refused, found_taken}
+use Rattle.turns.proofs.Turning.{number_fits, step_long, step_none, step_misplaced, turn_refused, turn_taken, found_long, number_long, found_none, number_none, number_misplaced, number_here, found_misplaced, found_refused, found_taken}
 use Rattle.turns.proofs.turn_of.Goals as goal
 use Rattle.turns.proofs.turn_of.Goals.{then-at-script-via-then-at-script, then-at-script-via-else-at-script+then-reading-at}
 
@@ -63,7 +63,14 @@ returns-then-at-script-clause-found c =
     ]
 
 pub returns-then-at-script-clause-number : goal.returns-then-at-script-clause-number
-returns-then-at-script-clause-number c = number_here c.args.script.now c.args.progress.now (omega arith)
+returns-then-at-script-clause-number c =
+    let a = c.args in
+    let fits : length a.script.now ≤ 65536 = omega arith in
+    elim c.then-at-script.branch [
+      | then-at-script-via-then-at-script w ↦ number_none a.script.now a.progress.now fits w.if-at-script.true
+      | then-at-script-via-else-at-script+then-reading-at w ↦
+          number_misplaced a.script.now a.progress.now fits w.if-at-script.false w.if-reading-at.true
+    ]
 
 pub returns-in-Ok-clause-found : goal.returns-in-Ok-clause-found
 returns-in-Ok-clause-found c =
@@ -73,7 +80,8 @@ returns-in-Ok-clause-found c =
     c.in-Ok.taken found.refused found.taken.0 found.taken.1
 
 pub returns-in-Ok-clause-number : goal.returns-in-Ok-clause-number
-returns-in-Ok-clause-number c = number_here c.args.script.now c.args.progress.now (omega arith)
+returns-in-Ok-clause-number c =
+    number_here c.args.script.now c.args.progress.now (omega arith) c.if-at-script.false c.if-reading-at.false
 
 pub returns-in-Err-clause-found : goal.returns-in-Err-clause-found
 returns-in-Err-clause-found c =
@@ -82,4 +90,5 @@ returns-in-Err-clause-found c =
     c.in-Err.refusal c.in-Err.ensures.refused
 
 pub returns-in-Err-clause-number : goal.returns-in-Err-clause-number
-returns-in-Err-clause-number c = number_here c.args.script.now c.args.progress.now (omega arith)
+returns-in-Err-clause-number c =
+    number_here c.args.script.now c.args.progress.now (omega arith) c.if-at-script.false c.if-reading-at.false
