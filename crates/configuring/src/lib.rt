@@ -59,6 +59,7 @@ pub fn settings_refusal(settings: Settings, addresses: &[u8]) -> Result<Addresse
 }
 
 // The addresses, or the first of refusals 14 to 19.
+// Kept: the free place is looked for again by who fills it: a check that answered both would be no plainer.
 fn configure_refusal<'a>(
     words: &[u32; 4096],
     settings: Settings,
@@ -79,6 +80,7 @@ fn configure_refusal<'a>(
 }
 
 // A router that was configured just now.
+// Kept: plain parameters, since a place that was freed has no `Settings`: a struct of zeros would be no plainer.
 pub fn new_router(vrid: u8, priority: u8, interval: u8, preempt: bool, count: u8) -> Router
     ensures { result ≡ new_router vrid priority interval preempt count }
 {

@@ -43,6 +43,7 @@ pub fn change(words: &mut [u32; 4096], place: Place, heard: bool, turn: Turn)
 }
 
 // Stores what an event changes and writes its frames, or refuses by 22 and tells how much room they need.
+// Kept: `words` and `lists` go side by side, as C lends them (`table_c`): one is changed and the other only read.
 // Kept: `heard` has the router loaded where it is needed; handed over by value, it made a takeover dearer than in plain C.
 pub fn act(
     words: &mut [u32; 4096],

@@ -58,6 +58,7 @@ pub fn happen(
 
 // A clock step for the router at a place: in Initialize nothing happens, else the timer falls, or it fires, or that is
 // refused by 22.
+// Kept: apart from `router::clock`, since a step that does not fire changes one lent word: `ClockInTable` ties them.
 fn tick_at(
     words: &mut [u32; 4096],
     lists: &[u8; 16320],

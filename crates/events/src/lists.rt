@@ -7,6 +7,7 @@ use rooms::put;
 use writing::addresses::Addresses;
 
 // The addresses of a place that has so many.
+// Kept: the count's bound by a clause: a router of any count has a meaning, as `list_of` of stations says.
 #[tactic(auto, unfolding(crate::specs::Lists::list_at))]
 pub fn list_at(lists: &[u8; 16320], place: Place, count: u8) -> Addresses<'_>
     requires { count ≤ 16 }

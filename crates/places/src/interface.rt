@@ -14,6 +14,7 @@ pub fn primary(words: &[u32; 4096]) -> u32
 }
 
 // How often a refusal of 1 to 9 was given.
+// Kept: a number, as the question has it: `table::calls::interface_count` answers 0 for any that is none of the nine.
 #[tactic(auto, unfolding(crate::specs::Place::refusal_count))]
 pub fn refusal_count(words: &[u32; 4096], number: usize) -> u32
     requires { number ≤ 9 }
@@ -23,6 +24,7 @@ pub fn refusal_count(words: &[u32; 4096], number: usize) -> u32
 }
 
 // The table with a refusal of 1 to 9 counted.
+// Kept: its bound by a clause: an enum of the nine alone would be a second list of refusals, and no plainer.
 #[tactic(auto, unfolding(crate::specs::Place::count_refusal))]
 pub fn count_refusal(words: &mut [u32; 4096], refusal: Refusal)
     requires { refusal_number refusal ≤ 9 }

@@ -6,7 +6,7 @@ use states::record::{Counts, Router, State};
 use states::step::state_number;
 
 // The state that a word stands for: 0 is Initialize, 1 Backup, and every other Master.
-// Kept: no `From`, which only the crate of `State` could have, and that knows of no words.
+// Kept: a function, no `From`: only in this layout is a word a state, so that `states` would say more, and no plainer.
 #[tactic(auto, unfolding(crate::specs::Layout::state_of))]
 pub fn state_of(word: u32) -> State
     ensures { result ≡ state_of word }

@@ -62,6 +62,7 @@ pub fn store(words: &mut [u32; 4096], place: Place, r: Router)
 }
 
 // The word of a state, where this one stood: it stays where the state stays.
+// Kept: states by their numbers, as the definition `state_word` compares them.
 fn state_word(word: u32, state: State) -> u32
     ensures { result ≡ state_word word state }
 {
@@ -114,6 +115,7 @@ pub fn store_timer(words: &mut [u32; 4096], place: Place, ticks: u32)
 }
 
 // The table with a refusal of 10 to 13 counted for the router at a place.
+// Kept: beside `count_refusal`, of which one line is the same: a function of that line would be no plainer.
 #[tactic(auto, unfolding(crate::specs::Place::count_at_place))]
 pub fn count_at_place(words: &mut [u32; 4096], place: Place, refusal: Refusal)
     requires { (10 ≤ refusal_number refusal) × (refusal_number refusal ≤ 13) }
@@ -125,6 +127,7 @@ pub fn count_at_place(words: &mut [u32; 4096], place: Place, refusal: Refusal)
 }
 
 // The lowest place whose first word is `vrid`: the place of a virtual router, or for 0 the lowest free one.
+// Kept: 0 for a free place, as its first word has it: `place_of` is one search for both.
 pub fn find(words: &[u32; 4096], vrid: u8) -> Option<Place>
     ensures { result ≡ place_of words.now vrid }
 {

@@ -7,7 +7,7 @@ use std::io::Write;
 use text::{put, put_address, put_byte, put_decimal, put_hex_or_dash, put_next};
 use wire::refusal::{Refusal, number_of};
 
-// Kept: the functions of `text` promise what they put into a lent buffer behind a place, which a String would not show.
+// Kept: a buffer and its end, since the functions of `text` put into one: a `String` would want its own, and be no plainer.
 #[derive(Drop)]
 pub struct Page {
     // enough for the longest page: a packet of 255 addresses, as `judge` prints it

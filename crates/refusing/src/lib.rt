@@ -56,6 +56,7 @@ fn number_refusal(used: usize, at: usize) -> Result<(), Refusal>
 }
 
 // The first of 26 and 28 that refuses a deliver record.
+// Kept: apart from that of `stations::list`, which has no third check: `deliver_checks` and `delivery_refusal` are two lists.
 fn deliver_refusal(
     stations: &[Station; 16],
     used: usize,
@@ -89,10 +90,15 @@ fn kind_refusal(progress: &Progress, taken: Record) -> Result<(), Refusal>
     match taken.kind {
         Kind::NewSegment => segment_refusal(body[0], body[1]),
         Kind::NewStation => station_refusal(used, body[0], body[1]),
-        Kind::Startup | Kind::Shutdown => number_refusal(used, body[0] as usize),
+        Kind::Startup | Kind::Shutdown => number_refusal(used, usize::from(body[0])),
         Kind::Clock => Ok(()),
         Kind::Deliver => {
-            deliver_refusal(&progress.stations, used, body[0] as usize, body[1] as usize)
+            deliver_refusal(
+                &progress.stations,
+                used,
+                usize::from(body[0]),
+                usize::from(body[1]),
+            )
         }
     }
 }

@@ -53,9 +53,12 @@ const DONE: Done = Done {
     leftover: 0,
 };
 
-// The VRID that a packet bears, or 0, which no router has, where it is refused by 1 to 8.
-fn borne(packet: &[u8]) -> u8 {
-    judge(packet).map_or(0, |fields| fields.vrid)
+// The VRID that a packet bears, unless it is refused by 1 to 8.
+fn borne(packet: &[u8]) -> Option<u8> {
+    match judge(packet) {
+        Ok(fields) => Some(fields.vrid),
+        Err(_) => None,
+    }
 }
 
 impl Call {
@@ -141,16 +144,16 @@ impl Call {
     }
 
     // The VRID of the router that the line shows: a new table has none.
-    pub fn shown(&self) -> u8 {
+    pub fn shown(&self) -> Option<u8> {
         match self {
-            Call::Empty { .. } => 0,
+            Call::Empty { .. } => None,
             Call::Packet { bytes, .. } => borne(bytes),
             Call::Configure { vrid, .. }
             | Call::Remove { vrid }
             | Call::Startup { vrid, .. }
             | Call::Shutdown { vrid, .. }
             | Call::Clock { vrid, .. }
-            | Call::Question { vrid } => *vrid,
+            | Call::Question { vrid } => Some(*vrid),
         }
     }
 }

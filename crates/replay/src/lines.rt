@@ -26,9 +26,13 @@ pub fn line_of(call: &Call, answer: Result<Done, Refusal>, words: &[u32; 4096]) 
     page.byte(b' ');
     page.hex(call.room());
     page.byte(b' ');
-    match question(words, call.shown()) {
-        Ok(router) => put_router(&mut page, router),
-        Err(_) => page.byte(b'-'),
+    let shown = match call.shown() {
+        Some(vrid) => question(words, vrid).ok(),
+        None => None,
+    };
+    match shown {
+        Some(router) => put_router(&mut page, router),
+        None => page.byte(b'-'),
     }
     for number in 1..=9 {
         page.next(interface_count(words, number));

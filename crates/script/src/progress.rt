@@ -4,6 +4,7 @@ use station::station::Station;
 #[derive(Clone, Copy)]
 pub struct Progress {
     // in number order; those that are not used are not there yet
+    // Kept: memory is fixed, and `used` of the reading says how many there are.
     pub stations: [Station; 16],
     pub reading: Reading,
 }

@@ -14,7 +14,8 @@ pub struct Station {
     pub router: Router,
     // how often each of refusals 1 to 9 was given
     pub refusals: [u32; 9],
-    // the virtual addresses, four bytes each: the router's count says how many
+    // the virtual addresses, four bytes each
+    // Kept: memory is fixed, and the router's count says how many they are.
     pub addresses: [u8; 64],
     // the latest advertisement frame
     // Kept: memory is fixed, and any value is a station: promises speak of the first bytes, as many as were sent.

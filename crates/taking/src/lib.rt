@@ -43,17 +43,22 @@ pub fn step_stations(stations: &mut [Station; 16], reading: Reading, taken: Reco
         Kind::NewSegment => {}
         Kind::NewStation => add_station(stations, reading, body),
         Kind::Startup => {
-            let _ = list::startup(stations, body[0] as usize, &mut out);
+            let _ = list::startup(stations, usize::from(body[0]), &mut out);
         }
         Kind::Shutdown => {
-            let _ = list::shutdown(stations, body[0] as usize, &mut out);
+            let _ = list::shutdown(stations, usize::from(body[0]), &mut out);
         }
         Kind::Clock => {
             let ticks = u16::from_be_bytes([body[0], body[1]]);
             list::pass_first(stations, reading.used, u32::from(ticks))
         }
         Kind::Deliver => {
-            let _ = list::deliver(stations, body[0] as usize, body[1] as usize, &mut out);
+            let _ = list::deliver(
+                stations,
+                usize::from(body[0]),
+                usize::from(body[1]),
+                &mut out,
+            );
         }
     }
 }

@@ -1,5 +1,5 @@
 // Text put into a lent buffer at a place: each function answers the place after what it put, or the buffer's end.
-// Kept: a buffer and a place, and no struct of both, since `printing` cites `Appended` of the two and lends its own buffer.
+// Kept: a buffer and a place, and no struct of both, as `Appended` and `OneAppended` speak of the two.
 #![tactic(auto)]
 
 ghost use Rattle.std.specs.Prelude.{◌≡◌, ◌∷◌, [], ◌<◌};
@@ -18,6 +18,7 @@ pub fn put_byte(out: &mut [u8], at: usize, byte: u8) -> usize
 }
 
 // Puts bytes, as many as fit.
+// Kept: byte by byte, as `put_hex` does: so what is cut off at the end is a matter of `put_byte` alone.
 pub fn put(out: &mut [u8], at: usize, bytes: &[u8]) -> usize
     ensures { Appended out.old at bytes.now out.new result }
 {
@@ -29,6 +30,7 @@ pub fn put(out: &mut [u8], at: usize, bytes: &[u8]) -> usize
 }
 
 // Puts a number in decimal, as much as fits.
+// Kept: digits by hand, here and below: the library's `Display` promises no bytes, and `Appended` names each.
 pub fn put_decimal(out: &mut [u8], at: usize, number: u64) -> usize
     ensures { Appended out.old at (decimal_of number) out.new result }
 {

@@ -1,4 +1,4 @@
--- The next record of a run, with the stations apart from the rest: what `turn_of` cites.
+-- The next record of a run: what `turn_of` cites.
 -- Assumes nothing.
 use mathlib.Core.Path.{◌≡◌, refl, sym, ◌∙◌}
 use mathlib.Core.Bool.{true}
