@@ -14,7 +14,7 @@ pub fn primary(words: &[u32; 4096]) -> u32
 }
 
 // How often a refusal of 1 to 9 was given.
-// Kept: a number, as the question has it: `table::calls::interface_count` answers 0 for any that is none of the nine.
+// Kept: a number, as `table::calls::interface_count` is asked by one: a type for it would be no plainer.
 #[tactic(auto, unfolding(crate::specs::Place::refusal_count))]
 pub fn refusal_count(words: &[u32; 4096], number: usize) -> u32
     requires { number ≤ 9 }

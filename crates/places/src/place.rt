@@ -62,7 +62,7 @@ pub fn store(words: &mut [u32; 4096], place: Place, r: Router)
 }
 
 // The word of a state, where this one stood: it stays where the state stays.
-// Kept: states by their numbers, as the definition `state_word` compares them.
+// Kept: states by their numbers: one of them is stored next, so that `==` would be no plainer.
 fn state_word(word: u32, state: State) -> u32
     ensures { result ≡ state_word word state }
 {

@@ -56,7 +56,7 @@ fn number_refusal(used: usize, at: usize) -> Result<(), Refusal>
 }
 
 // The first of 26 and 28 that refuses a deliver record.
-// Kept: apart from that of `stations::list`, which has no third check: `deliver_checks` and `delivery_refusal` are two lists.
+// Kept: apart from `stations::list`, which does not ask whether it sent: `deliver_checks` and `delivery_checks` differ.
 fn deliver_refusal(
     stations: &[Station; 16],
     used: usize,

@@ -20,7 +20,7 @@ pub struct Reading {
     // the one virtual address
     pub address: [u8; 4],
     // whether a segment record was read
-    // Kept: a flag, and no option of what the record says: `station_in` is said of every segment, begun or not.
+    // Kept: a flag: `station_in` reads a segment's fields, begun or not, and an option would hide them.
     pub begun: bool,
     // where the next record begins
     pub at: usize,

@@ -114,7 +114,7 @@ pub fn question(words: &[u32; 4096], vrid: u8) -> Result<Router, Refusal>
 }
 
 // How often a refusal of 1 to 9 was given; 0 for any other number.
-// Kept: a number, since a question about any is answered.
+// Kept: a number: this promise has an answer for any.
 #[tactic(auto, unfolding(events::specs::Events::interface_count))]
 pub fn interface_count(words: &[u32; 4096], number: usize) -> u32
     ensures { result ≡ interface_count words.now number }

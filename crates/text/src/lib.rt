@@ -18,7 +18,7 @@ pub fn put_byte(out: &mut [u8], at: usize, byte: u8) -> usize
 }
 
 // Puts bytes, as many as fit.
-// Kept: byte by byte, as `put_hex` does: so what is cut off at the end is a matter of `put_byte` alone.
+// Kept: byte by byte, as `put_hex`: a slice copied would need its own cut at the end, and be no plainer.
 pub fn put(out: &mut [u8], at: usize, bytes: &[u8]) -> usize
     ensures { Appended out.old at bytes.now out.new result }
 {
