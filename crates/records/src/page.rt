@@ -1,6 +1,8 @@
 // A page: what a program prints for a record. Each method puts something more at its end.
-ghost use Rattle.std.specs.Prelude.{◌≤◌, take, OnOk};
+ghost use Rattle.std.specs.Prelude.{◌≡◌, ◌≤◌, ◌∷◌, [], take, OnOk};
 ghost use Rattle.std.specs.Io.KnownBytes.{Appends};
+ghost use Rattle.text.specs.Appended.{Appended};
+ghost use Rattle.text.specs.Digits.{address_of, hex_or_dash};
 
 use std::io;
 use std::io::Write;
@@ -18,18 +20,24 @@ pub struct Page {
 
 impl Page {
     // A page with nothing on it.
-    pub fn new() -> Page {
+    pub fn new() -> Page
+        ensures { result.end ≡ 0 }
+    {
         Page {
             bytes: [0; 4207],
             end: 0,
         }
     }
 
-    pub fn byte(&mut self, byte: u8) {
+    pub fn byte(&mut self, byte: u8)
+        ensures { Appended self.old.bytes self.old.end (byte ∷ []) self.new.bytes self.new.end }
+    {
         self.end = put_byte(&mut self.bytes, self.end, byte);
     }
 
-    pub fn text(&mut self, text: &[u8]) {
+    pub fn text(&mut self, text: &[u8])
+        ensures { Appended self.old.bytes self.old.end text.now self.new.bytes self.new.end }
+    {
         self.end = put(&mut self.bytes, self.end, text);
     }
 
@@ -43,12 +51,16 @@ impl Page {
     }
 
     // A dotted address.
-    pub fn address(&mut self, address: u32) {
+    pub fn address(&mut self, address: u32)
+        ensures { Appended self.old.bytes self.old.end (address_of address) self.new.bytes self.new.end }
+    {
         self.end = put_address(&mut self.bytes, self.end, address);
     }
 
     // Bytes in hexadecimal, or a dash where there are none.
-    pub fn hex(&mut self, bytes: &[u8]) {
+    pub fn hex(&mut self, bytes: &[u8])
+        ensures { Appended self.old.bytes self.old.end (hex_or_dash bytes.now) self.new.bytes self.new.end }
+    {
         self.end = put_hex_or_dash(&mut self.bytes, self.end, bytes);
     }
 

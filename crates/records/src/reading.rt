@@ -1,4 +1,6 @@
 // Parts of a record as they come from an input.
+ghost use Rattle.std.specs.Prelude.{◌≤◌, IfOk, vec_len};
+
 use byteorder::{BigEndian, ReadBytesExt};
 use std::alloc::{AllocError, Global};
 use std::io;
@@ -38,7 +40,9 @@ pub fn read_flag<R: Read>(input: &mut R) -> Result<bool, Fault> {
 }
 
 // Reads how many bytes there are, and those.
-pub fn read_bytes<R: Read>(alloc: Global, input: &mut R) -> Result<Vec<u8>, Fault> {
+pub fn read_bytes<R: Read>(alloc: Global, input: &mut R) -> Result<Vec<u8>, Fault>
+    ensures { IfOk result (λ bytes. vec_len bytes ≤ 65535) }
+{
     let size = usize::from(input.read_u16::<BigEndian>()?);
     let mut bytes = vec![in alloc; 0; size]?;
     input.read_exact(&mut bytes)?;
@@ -46,7 +50,9 @@ pub fn read_bytes<R: Read>(alloc: Global, input: &mut R) -> Result<Vec<u8>, Faul
 }
 
 // Reads how large a room is, at most 1,023 bytes. It is all 0xA5, so that a byte that was left alone shows.
-pub fn read_room<R: Read>(alloc: Global, input: &mut R) -> Result<Vec<u8>, Fault> {
+pub fn read_room<R: Read>(alloc: Global, input: &mut R) -> Result<Vec<u8>, Fault>
+    ensures { IfOk result (λ room. vec_len room ≤ 1023) }
+{
     let size = usize::from(input.read_u16::<BigEndian>()?);
     if size > 1023 {
         return Err(Fault::BadRecord);
