@@ -23,7 +23,8 @@ fn step_at<F: FnOnce(Station, &mut [u8]) -> Stepped>(
 ) -> Result<Done, Refusal>
     requires { F.IsAlwaysCallable step }
     ensures { (by : Station → List ℕ → StepResult)
-        → ((s : Station) (lent left : MutBor (List ℕ)) (r : Stepped) → F.post step s lent r left → Leaves (by s lent.now) r left.now)
+        → ((s : Station) (lent left : MutBor (List ℕ)) (r : Stepped)
+        → F.post step s lent r left → Leaves (by s lent.now) r left.now)
         → LeavesList (stepped_at by stations.old at out.old) result stations.new out.new }
 {
     if at >= stations.len() {
