@@ -1,10 +1,9 @@
-// The stations of a record, as far as each has come, and the deliveries among them.
+// The stations of a record, as far as each has come, and the deliveries among them. A bad record is read to its end all the same.
 use byteorder::{BigEndian, ReadBytesExt};
-use records::reading::{Fault, read_flag};
+use records::reading::{Fault, flag_of};
 use station::making::new_station;
 use station::station::Station;
 use stations::list::{clock, deliver, startup};
-use std::alloc::{AllocError, Global};
 use std::io::Read;
 
 // How far a station has come.
@@ -29,17 +28,28 @@ impl TryFrom<u8> for Come {
     }
 }
 
-// Reads a station: priority, preempt, primary address. It has virtual router 1, an interval of one second and the virtual
-// address 192.168.1.254.
-fn read_made<R: Read>(input: &mut R) -> Result<Station, Fault> {
-    let priority = input.read_u8()?;
+// No station yet, 16 times.
+pub fn no_stations() -> [Station; 16] {
+    [new_station(0, 0, 0, false, 0, &[]).station; 16]
+}
+
+// The station that has virtual router 1, an interval of one second and the virtual address 192.168.1.254, and how far it has come.
+fn station_of(priority: u8, preempt: u8, primary: u32, come: u8) -> Result<(Station, Come), Fault> {
     if priority == 0 {
         return Err(Fault::BadRecord);
     }
-    let preempt = read_flag(input)?;
-    let primary = input.read_u32::<BigEndian>()?;
+    let preempt = flag_of(preempt)?;
     let made = new_station(1, priority, 1, preempt, primary, &[192, 168, 1, 254]);
-    Ok(made.station)
+    Ok((made.station, Come::try_from(come)?))
+}
+
+// Reads a station: priority, preempt, primary address, and how far it has come. It is none where one of them is out of range.
+fn read_station<R: Read>(input: &mut R) -> Result<Option<(Station, Come)>, Fault> {
+    let priority = input.read_u8()?;
+    let preempt = input.read_u8()?;
+    let primary = input.read_u32::<BigEndian>()?;
+    let come = input.read_u8()?;
+    Ok(station_of(priority, preempt, primary, come).ok())
 }
 
 // Takes a station as far as it has come.
@@ -53,34 +63,30 @@ fn bring(stations: &mut [Station], at: usize, come: Come) {
     }
 }
 
-// Reads the stations of a record, 1 to 16, and how far each has come.
-pub fn read_stations<R: Read>(
-    alloc: Global,
-    count: u8,
-    input: &mut R,
-) -> Result<Vec<Station>, Fault> {
-    if count == 0 || count > 16 {
-        return Err(Fault::BadRecord);
+// Reads all of the stations, and answers whether each is good.
+pub fn read_stations<R: Read>(stations: &mut [Station], input: &mut R) -> Result<bool, Fault> {
+    let mut good = true;
+    for at in 0..stations.len() {
+        match read_station(input)? {
+            Some((station, come)) => {
+                stations[at] = station;
+                bring(stations, at, come);
+            }
+            None => good = false,
+        }
     }
-    let mut stations = Vec::new(alloc);
-    for at in 0..usize::from(count) {
-        let made = read_made(input)?;
-        stations.push(made).map_err(AllocError::from)?;
-        bring(&mut stations, at, Come::try_from(input.read_u8()?)?);
-    }
-    Ok(stations)
+    Ok(good)
 }
 
-// Reads the deliveries, from and to, and hands each advertisement over as it comes.
-pub fn hand_over<R: Read>(input: &mut R, stations: &mut [Station]) -> Result<(), Fault> {
+// Reads the deliveries, from and to, and hands each advertisement over as it comes; answers whether each is among the stations.
+pub fn hand_over<R: Read>(stations: &mut [Station], input: &mut R) -> Result<bool, Fault> {
     let mut room = [0; 786];
+    let mut good = true;
     for _ in 0..input.read_u16::<BigEndian>()? {
         let from = usize::from(input.read_u8()?);
         let to = usize::from(input.read_u8()?);
-        if from >= stations.len() || to >= stations.len() {
-            return Err(Fault::BadRecord);
-        }
+        good = good && from < stations.len() && to < stations.len();
         let _ = deliver(stations, from, to, &mut room);
     }
-    Ok(())
+    Ok(good)
 }

@@ -5,15 +5,16 @@ mod accepted; // what an accepted packet announces
 
 use crate::accepted::announced;
 use judging::judge;
+use records::reading::read_full;
 use std::io;
-use std::io::Read;
 
 fn main(rt: HostRuntime) -> io::Result<()> {
-    let mut packet = Vec::new(rt.alloc());
     // no packet is longer
-    rt.stdin().take(65536).read_to_end(&mut packet)?;
-    match judge(&packet) {
-        Ok(fields) => announced(&packet, fields).write(&mut rt.stdout()),
+    let mut memory = [0; 65536];
+    let given = read_full(&mut rt.stdin(), &mut memory)?;
+    let packet = &memory[..given];
+    match judge(packet) {
+        Ok(fields) => announced(packet, fields).write(&mut rt.stdout()),
         Err(refusal) => println!(rt; "refused {}: {refusal}", refusal.number()),
     }
 }

@@ -1,8 +1,8 @@
 // Parts of a record as they come from an input.
-ghost use Rattle.std.specs.Prelude.{◌≤◌, IfOk, vec_len};
+ghost use Rattle.std.specs.Prelude.{◌≡◌, ◌≤◌, ◌<◌, IfOk, length, take};
+ghost use Rattle.std.specs.Io.KnownBytes.{Consumes, IsAtEnd};
 
 use byteorder::{BigEndian, ReadBytesExt};
-use std::alloc::{AllocError, Global};
 use std::io;
 use std::io::{ErrorKind, Read};
 
@@ -11,7 +11,7 @@ use std::io::{ErrorKind, Read};
 pub enum Fault {
     // it is cut off or of no kind, or one of its fields is out of range
     BadRecord,
-    // the input or the memory failed
+    // the input failed
     Failed(io::Error),
 }
 
@@ -24,38 +24,69 @@ impl From<io::Error> for Fault {
     }
 }
 
-impl From<AllocError> for Fault {
-    fn from(error: AllocError) -> Fault {
-        Fault::Failed(io::Error::from(error))
+// Reads until `part` is full or the input ends, and answers how many bytes came.
+// Kept: a loop, as `read_to_end` wants a heap, and first asks for 512 bytes: an input that keeps messages apart lost the rest of one.
+pub fn read_full<R: Read>(input: &mut R, part: &mut [u8]) -> io::Result<usize>
+    ensures within { IfOk result (λ n. n ≤ length part.new) }
+    ensures bytes { IfOk result (λ n. Consumes (R.remaining input.old) (R.remaining input.new) (take n part.new)) }
+    ensures end { IfOk result (λ n. n < length part.new → IsAtEnd (R.remaining input.new)) }
+{
+    let mut done = 0;
+    while done < part.len() {
+        let more = input.read(&mut part[done..])?;
+        if more == 0 {
+            return Ok(done);
+        }
+        done += more;
+    }
+    Ok(done)
+}
+
+// The largest room, all 0xA5, so that a byte that was left alone shows.
+pub fn fresh_room() -> [u8; 1023]
+    ensures { 1023 ≡ length result }
+{
+    [0xA5; 1023]
+}
+
+// How large the room of a call is, at most 1,023 bytes.
+#[derive(Clone, Copy)]
+pub struct Room {
+    pub size: usize,
+    pub ghost within: { size ≤ 1023 },
+}
+
+impl TryFrom<u16> for Room {
+    type Error = Fault;
+
+    fn try_from(size: u16) -> Result<Room, Fault> {
+        if size > 1023 {
+            return Err(Fault::BadRecord);
+        }
+        Ok(Room {
+            size: usize::from(size),
+        })
     }
 }
 
-// Reads a byte that is 0 or 1.
-pub fn read_flag<R: Read>(input: &mut R) -> Result<bool, Fault> {
-    match input.read_u8()? {
+// The flag that a byte is, 0 or 1.
+pub fn flag_of(byte: u8) -> Result<bool, Fault> {
+    match byte {
         0 => Ok(false),
         1 => Ok(true),
         _ => Err(Fault::BadRecord),
     }
 }
 
-// Reads how many bytes there are, and those.
-pub fn read_bytes<R: Read>(alloc: Global, input: &mut R) -> Result<Vec<u8>, Fault>
-    ensures { IfOk result (λ bytes. vec_len bytes ≤ 65535) }
+// Reads how many bytes there are, and those, into memory that is lent.
+pub fn read_bytes<'a, R: Read>(
+    memory: &'a mut [u8; 65535],
+    input: &mut R,
+) -> Result<&'a [u8], Fault>
+    ensures { IfOk result (λ bytes. length bytes.now ≤ 65535) }
 {
     let size = usize::from(input.read_u16::<BigEndian>()?);
-    let mut bytes = vec![in alloc; 0; size]?;
-    input.read_exact(&mut bytes)?;
+    let bytes = &mut memory[..size];
+    input.read_exact(bytes)?;
     Ok(bytes)
-}
-
-// Reads how large a room is, at most 1,023 bytes. It is all 0xA5, so that a byte that was left alone shows.
-pub fn read_room<R: Read>(alloc: Global, input: &mut R) -> Result<Vec<u8>, Fault>
-    ensures { IfOk result (λ room. vec_len room ≤ 1023) }
-{
-    let size = usize::from(input.read_u16::<BigEndian>()?);
-    if size > 1023 {
-        return Err(Fault::BadRecord);
-    }
-    Ok(vec![in alloc; 0xA5; size]?)
 }

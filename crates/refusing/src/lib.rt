@@ -104,6 +104,7 @@ fn kind_refusal(progress: &Progress, taken: Record) -> Result<(), Refusal>
 }
 
 // The record of this kind whose body begins these bytes, or the first refusal of it.
+#[tactic(auto, using(crate::proofs::Refusing::record_refused, crate::proofs::Refusing::record_goes))]
 pub fn taken_record<'a>(
     progress: &Progress,
     byte: u8,

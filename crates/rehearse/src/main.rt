@@ -5,8 +5,8 @@ ghost use Rattle.std.specs.Prelude.{OnOk, IfSome};
 ghost use Rattle.std.specs.Io.KnownBytes.{Appends};
 ghost use Rattle.script.specs.Script.{rehearsal_of};
 
+use records::reading::read_full;
 use rehearsal::{run, start};
-use std::alloc::Global;
 use std::io;
 use std::io::{Read, Write};
 
@@ -25,16 +25,16 @@ fn rehearse<W: Write>(output: &mut W, script: &[u8]) -> io::Result<()>
 }
 
 // Rehearses the script that the input is, to its end: a longer one than a script may be is refused, however long it is.
-fn rehearse_input<R: Read, W: Write>(alloc: Global, input: &mut R, output: &mut W) -> io::Result<()>
+fn rehearse_input<R: Read, W: Write>(input: &mut R, output: &mut W) -> io::Result<()>
     ensures { OnOk result (IfSome (R.remaining input.old)
         (λ script. Appends (W.contents output.old) (W.contents output.new) (rehearsal_of script))) }
 {
-    let mut script = Vec::new(alloc);
     // a byte more than a script may have
-    input.take(65537).read_to_end(&mut script)?;
-    rehearse(output, &script)
+    let mut script = [0; 65537];
+    let given = read_full(input, &mut script)?;
+    rehearse(output, &script[..given])
 }
 
 fn main(rt: HostRuntime) -> io::Result<()> {
-    rehearse_input(rt.alloc(), &mut rt.stdin(), &mut rt.stdout())
+    rehearse_input(&mut rt.stdin(), &mut rt.stdout())
 }

@@ -2,15 +2,14 @@
 use byteorder::{BigEndian, ReadBytesExt};
 use events::answer::Done;
 use judging::judge;
-use records::reading::{Fault, read_bytes, read_flag, read_room};
-use std::alloc::Global;
+use records::reading::{Fault, Room, flag_of, read_bytes};
 use std::io::Read;
 use table::calls::{clock, configure, empty, packet, question, remove, shutdown, startup};
 use wire::refusal::Refusal;
 
-// A call, with what it is given and the room that is lent to it.
-#[derive(Drop)]
-pub enum Call {
+// A call, with what it is given and how large a room is lent to it.
+#[derive(Clone, Copy)]
+pub enum Call<'a> {
     // makes a new empty table
     Empty {
         primary: u32,
@@ -20,27 +19,27 @@ pub enum Call {
         priority: u8,
         interval: u8,
         preempt: bool,
-        addresses: Vec<u8>,
+        addresses: &'a [u8],
     },
     Remove {
         vrid: u8,
     },
     Startup {
         vrid: u8,
-        room: Vec<u8>,
+        room: Room,
     },
     Shutdown {
         vrid: u8,
-        room: Vec<u8>,
+        room: Room,
     },
     Clock {
         vrid: u8,
         ticks: u32,
-        room: Vec<u8>,
+        room: Room,
     },
     Packet {
-        room: Vec<u8>,
-        bytes: Vec<u8>,
+        room: Room,
+        bytes: &'a [u8],
     },
     Question {
         vrid: u8,
@@ -61,40 +60,56 @@ fn borne(packet: &[u8]) -> Option<u8> {
     }
 }
 
-impl Call {
-    // Reads the rest of a call of this kind, its fields in their order.
-    pub fn read<R: Read>(alloc: Global, kind: u8, input: &mut R) -> Result<Call, Fault> {
+impl Call<'_> {
+    // Reads the rest of a call of this kind, its fields in their order and its bytes into memory that is lent. A bad one is read
+    // to its end all the same.
+    pub fn read<'a, R: Read>(
+        memory: &'a mut [u8; 65535],
+        kind: u8,
+        input: &mut R,
+    ) -> Result<Call<'a>, Fault> {
         match kind {
             1 => Ok(Call::Empty {
                 primary: input.read_u32::<BigEndian>()?,
             }),
-            2 => Ok(Call::Configure {
-                vrid: input.read_u8()?,
-                priority: input.read_u8()?,
-                interval: input.read_u8()?,
-                preempt: read_flag(input)?,
-                addresses: read_bytes(alloc, input)?,
-            }),
+            2 => {
+                let vrid = input.read_u8()?;
+                let priority = input.read_u8()?;
+                let interval = input.read_u8()?;
+                let preempt = input.read_u8()?;
+                let addresses = read_bytes(memory, input)?;
+                Ok(Call::Configure {
+                    vrid,
+                    priority,
+                    interval,
+                    preempt: flag_of(preempt)?,
+                    addresses,
+                })
+            }
             3 => Ok(Call::Remove {
                 vrid: input.read_u8()?,
             }),
             4 => Ok(Call::Startup {
                 vrid: input.read_u8()?,
-                room: read_room(alloc, input)?,
+                room: Room::try_from(input.read_u16::<BigEndian>()?)?,
             }),
             5 => Ok(Call::Shutdown {
                 vrid: input.read_u8()?,
-                room: read_room(alloc, input)?,
+                room: Room::try_from(input.read_u16::<BigEndian>()?)?,
             }),
             6 => Ok(Call::Clock {
                 vrid: input.read_u8()?,
                 ticks: input.read_u32::<BigEndian>()?,
-                room: read_room(alloc, input)?,
+                room: Room::try_from(input.read_u16::<BigEndian>()?)?,
             }),
-            7 => Ok(Call::Packet {
-                room: read_room(alloc, input)?,
-                bytes: read_bytes(alloc, input)?,
-            }),
+            7 => {
+                let size = input.read_u16::<BigEndian>()?;
+                let bytes = read_bytes(memory, input)?;
+                Ok(Call::Packet {
+                    room: Room::try_from(size)?,
+                    bytes,
+                })
+            }
             8 => Ok(Call::Question {
                 vrid: input.read_u8()?,
             }),
@@ -104,13 +119,14 @@ impl Call {
 
     // Makes the call.
     pub fn make(
-        &mut self,
+        self,
         words: &mut [u32; 4096],
         lists: &mut [u8; 16320],
+        out: &mut [u8],
     ) -> Result<Done, Refusal> {
         match self {
             Call::Empty { primary } => {
-                empty(words, *primary);
+                empty(words, primary);
                 Ok(DONE)
             }
             Call::Configure {
@@ -119,32 +135,31 @@ impl Call {
                 interval,
                 preempt,
                 addresses,
-            } => configure(
-                words, lists, *vrid, *priority, *interval, *preempt, addresses,
-            )
-            .and(Ok(DONE)),
-            Call::Remove { vrid } => remove(words, *vrid).and(Ok(DONE)),
-            Call::Startup { vrid, room } => startup(words, lists, *vrid, room),
-            Call::Shutdown { vrid, room } => shutdown(words, lists, *vrid, room),
-            Call::Clock { vrid, ticks, room } => clock(words, lists, *vrid, *ticks, room),
-            Call::Packet { room, bytes } => packet(words, lists, bytes, room),
-            Call::Question { vrid } => question(words, *vrid).and(Ok(DONE)),
+            } => configure(words, lists, vrid, priority, interval, preempt, addresses).and(Ok(
+                DONE,
+            )),
+            Call::Remove { vrid } => remove(words, vrid).and(Ok(DONE)),
+            Call::Startup { vrid, .. } => startup(words, lists, vrid, out),
+            Call::Shutdown { vrid, .. } => shutdown(words, lists, vrid, out),
+            Call::Clock { vrid, ticks, .. } => clock(words, lists, vrid, ticks, out),
+            Call::Packet { bytes, .. } => packet(words, lists, bytes, out),
+            Call::Question { vrid } => question(words, vrid).and(Ok(DONE)),
         }
     }
 
-    // The room that was lent to it.
-    pub fn room(&self) -> &[u8] {
+    // The room that it is lent.
+    pub fn room(self) -> Room {
         match self {
             Call::Startup { room, .. }
             | Call::Shutdown { room, .. }
             | Call::Clock { room, .. }
             | Call::Packet { room, .. } => room,
-            _ => &[],
+            _ => Room { size: 0 },
         }
     }
 
     // The VRID of the router that the line shows: a new table has none.
-    pub fn shown(&self) -> Option<u8> {
+    pub fn shown(self) -> Option<u8> {
         match self {
             Call::Empty { .. } => None,
             Call::Packet { bytes, .. } => borne(bytes),
@@ -153,7 +168,7 @@ impl Call {
             | Call::Startup { vrid, .. }
             | Call::Shutdown { vrid, .. }
             | Call::Clock { vrid, .. }
-            | Call::Question { vrid } => Some(*vrid),
+            | Call::Question { vrid } => Some(vrid),
         }
     }
 }

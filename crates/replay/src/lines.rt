@@ -1,5 +1,4 @@
 // The line of a call: how it ended, its room, and the router and the interface, all as they are after it.
-use crate::call::Call;
 use events::answer::Done;
 use records::page::Page;
 use states::record::Router;
@@ -19,14 +18,19 @@ fn put_router(page: &mut Page, router: Router) {
     page.next(counts.interval);
 }
 
-pub fn line_of(call: &Call, answer: Result<Done, Refusal>, words: &[u32; 4096]) -> Page {
+pub fn line_of(
+    answer: Result<Done, Refusal>,
+    room: &[u8],
+    vrid: Option<u8>,
+    words: &[u32; 4096],
+) -> Page {
     let mut page = Page::new();
     page.outcome(answer);
     page.next(answer.map_or(0, |done| done.leftover));
     page.byte(b' ');
-    page.hex(call.room());
+    page.hex(room);
     page.byte(b' ');
-    let shown = match call.shown() {
+    let shown = match vrid {
         Some(vrid) => question(words, vrid).ok(),
         None => None,
     };

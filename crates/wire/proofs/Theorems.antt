@@ -4,7 +4,7 @@ use mathlib.Core.Path.{◌≡◌, refl, sym, ◌∙◌}
 use Rattle.std.specs.Prelude.{Result, Ok, Err}
 use Rattle.wire.specs.declared.refusal.Refusal.{Refusal}
 use Rattle.wire.specs.Refusal.{number_answered, room_answered}
-use Rattle.wire.specs.Theorems.{OneValue, OneRefusal}
+use Rattle.wire.specs.Theorems.{OneValue, OneRefusal, OneTaken}
 use Rattle.wire.proofs.Refusals.{no_room, same_answer}
 
 pub one_value : OneValue
@@ -19,3 +19,6 @@ one_refusal number a b n x y =
     same_answer a b (x ∙ sym y)
     (no_room_answered a (λ e. n (sym x ∙ e)) ∙ sym (no_room_answered b (λ e. n (sym y ∙ e))))
     (λ p q e f. refl)
+
+pub one_taken : OneTaken
+one_taken T a b = same_answer a b

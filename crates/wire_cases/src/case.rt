@@ -1,52 +1,63 @@
 // A case as it is read.
 use byteorder::{BigEndian, ReadBytesExt};
-use records::reading::{Fault, read_bytes, read_room};
-use std::alloc::Global;
+use records::reading::{Fault, Room, read_bytes};
 use std::io::Read;
 
 // What is handed to judging or writing.
-#[derive(Drop)]
-pub enum Case {
+#[derive(Clone, Copy)]
+pub enum Case<'a> {
     Judge {
-        packet: Vec<u8>,
+        packet: &'a [u8],
     },
     Advertisement {
         vrid: u8,
         priority: u8,
         interval: u8,
         primary: u32,
-        room: Vec<u8>,
-        addresses: Vec<u8>,
+        room: Room,
+        addresses: &'a [u8],
     },
     Arp {
         vrid: u8,
         address: u32,
-        room: Vec<u8>,
+        room: Room,
     },
 }
 
-impl Case {
-    // Reads the rest of a case of this kind.
-    pub fn read<R: Read>(alloc: Global, kind: u8, input: &mut R) -> Result<Case, Fault> {
+impl Case<'_> {
+    // Reads the rest of a case of this kind, its bytes into memory that is lent. A bad one is read to its end all the same.
+    pub fn read<'a, R: Read>(
+        memory: &'a mut [u8; 65535],
+        kind: u8,
+        input: &mut R,
+    ) -> Result<Case<'a>, Fault> {
         match kind {
             // how many bytes, and those
             1 => Ok(Case::Judge {
-                packet: read_bytes(alloc, input)?,
+                packet: read_bytes(memory, input)?,
             }),
             // VRID, priority, interval, primary address, room, how many address bytes, and those
-            2 => Ok(Case::Advertisement {
-                vrid: input.read_u8()?,
-                priority: input.read_u8()?,
-                interval: input.read_u8()?,
-                primary: input.read_u32::<BigEndian>()?,
-                room: read_room(alloc, input)?,
-                addresses: read_bytes(alloc, input)?,
-            }),
+            2 => {
+                let vrid = input.read_u8()?;
+                let priority = input.read_u8()?;
+                let interval = input.read_u8()?;
+                let primary = input.read_u32::<BigEndian>()?;
+                let size = input.read_u16::<BigEndian>()?;
+                let addresses = read_bytes(memory, input)?;
+                Ok(Case::Advertisement {
+                    vrid,
+                    priority,
+                    interval,
+                    primary,
+                    room: Room::try_from(size)?,
+                    addresses,
+                })
+            }
             // VRID, address, room
             3 => Ok(Case::Arp {
                 vrid: input.read_u8()?,
                 address: input.read_u32::<BigEndian>()?,
-                room: read_room(alloc, input)?,
+                room: Room::try_from(input.read_u16::<BigEndian>()?)?,
             }),
             _ => Err(Fault::BadRecord),
         }

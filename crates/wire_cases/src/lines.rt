@@ -2,6 +2,7 @@
 use crate::case::Case;
 use judging::{Fields, judge};
 use records::page::Page;
+use records::reading::fresh_room;
 use wire::refusal::Refusal;
 use writing::arp::write_arp;
 use writing::frame::write_advertisement;
@@ -38,27 +39,29 @@ fn put_written(page: &mut Page, written: Result<usize, Refusal>, room: &[u8]) {
 pub fn answered(case: Case) -> Page {
     let mut page = Page::new();
     match case {
-        Case::Judge { packet } => put_judged(&mut page, &packet),
+        Case::Judge { packet } => put_judged(&mut page, packet),
         Case::Advertisement {
             vrid,
             priority,
             interval,
             primary,
+            room,
             addresses,
-            mut room,
         } => {
-            let written = write_advertisement(
-                vrid, priority, interval, primary, &addresses, &mut room,
-            );
-            put_written(&mut page, written, &room);
+            let mut bytes = fresh_room();
+            let out = &mut bytes[..room.size];
+            let written = write_advertisement(vrid, priority, interval, primary, addresses, out);
+            put_written(&mut page, written, out);
         }
         Case::Arp {
             vrid,
             address,
-            mut room,
+            room,
         } => {
-            let written = write_arp(vrid, address, &mut room);
-            put_written(&mut page, written, &room);
+            let mut bytes = fresh_room();
+            let out = &mut bytes[..room.size];
+            let written = write_arp(vrid, address, out);
+            put_written(&mut page, written, out);
         }
     }
     page.byte(b'\n');

@@ -10,7 +10,8 @@ use records::answering::answer_all;
 use std::io;
 
 fn main(rt: HostRuntime) -> io::Result<()> {
+    let mut memory = [0; 65535];
     answer_all(&mut rt.stdin(), &mut rt.stdout(), |kind, input| {
-        Ok(answered(Case::read(rt.alloc(), kind, input)?))
+        Ok(answered(Case::read(&mut memory, kind, input)?))
     })
 }
