@@ -1,6 +1,5 @@
 // The stations of a record, as far as each has come, and the deliveries among them. A bad record is read to its end all the same.
-use byteorder::{BigEndian, ReadBytesExt};
-use records::reading::{Fault, flag_of};
+use records::reading::{Fault, flag_of, read_head};
 use station::making::new_station;
 use station::station::Station;
 use stations::list::{clock, deliver, startup};
@@ -45,10 +44,8 @@ fn station_of(priority: u8, preempt: u8, primary: u32, come: u8) -> Result<(Stat
 
 // Reads a station: priority, preempt, primary address, and how far it has come. It is none where one of them is out of range.
 fn read_station<R: Read>(input: &mut R) -> Result<Option<(Station, Come)>, Fault> {
-    let priority = input.read_u8()?;
-    let preempt = input.read_u8()?;
-    let primary = input.read_u32::<BigEndian>()?;
-    let come = input.read_u8()?;
+    let [priority, preempt, a, b, c, d, come] = read_head::<R, 7>(input)?;
+    let primary = u32::from_be_bytes([a, b, c, d]);
     Ok(station_of(priority, preempt, primary, come).ok())
 }
 
@@ -82,9 +79,11 @@ pub fn read_stations<R: Read>(stations: &mut [Station], input: &mut R) -> Result
 pub fn hand_over<R: Read>(stations: &mut [Station], input: &mut R) -> Result<bool, Fault> {
     let mut room = [0; 786];
     let mut good = true;
-    for _ in 0..input.read_u16::<BigEndian>()? {
-        let from = usize::from(input.read_u8()?);
-        let to = usize::from(input.read_u8()?);
+    let deliveries = u16::from_be_bytes(read_head(input)?);
+    for _ in 0..deliveries {
+        let [from, to] = read_head::<R, 2>(input)?;
+        let from = usize::from(from);
+        let to = usize::from(to);
         good = good && from < stations.len() && to < stations.len();
         let _ = deliver(stations, from, to, &mut room);
     }

@@ -2,7 +2,6 @@
 ghost use Rattle.std.specs.Prelude.{◌≡◌, ◌≤◌, ◌<◌, IfOk, length, take};
 ghost use Rattle.std.specs.Io.KnownBytes.{Consumes, IsAtEnd};
 
-use byteorder::{BigEndian, ReadBytesExt};
 use std::io;
 use std::io::{ErrorKind, Read};
 
@@ -78,15 +77,22 @@ pub fn flag_of(byte: u8) -> Result<bool, Fault> {
     }
 }
 
-// Reads how many bytes there are, and those, into memory that is lent.
+// Reads the fields of a record that have a size, all at once.
+pub fn read_head<R: Read, const N: usize>(input: &mut R) -> Result<[u8; N], Fault> {
+    let mut head = [0; N];
+    input.read_exact(&mut head)?;
+    Ok(head)
+}
+
+// Reads so many bytes, into memory that is lent.
 pub fn read_bytes<'a, R: Read>(
     memory: &'a mut [u8; 65535],
     input: &mut R,
+    size: u16,
 ) -> Result<&'a [u8], Fault>
     ensures { IfOk result (λ bytes. length bytes.now ≤ 65535) }
 {
-    let size = usize::from(input.read_u16::<BigEndian>()?);
-    let bytes = &mut memory[..size];
+    let bytes = &mut memory[..usize::from(size)];
     input.read_exact(bytes)?;
     Ok(bytes)
 }

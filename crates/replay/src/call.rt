@@ -1,8 +1,7 @@
 // The call that a record makes.
-use byteorder::{BigEndian, ReadBytesExt};
 use events::answer::Done;
 use judging::judge;
-use records::reading::{Fault, Room, flag_of, read_bytes};
+use records::reading::{Fault, Room, flag_of, read_bytes, read_head};
 use std::io::Read;
 use table::calls::{clock, configure, empty, packet, question, remove, shutdown, startup};
 use wire::refusal::Refusal;
@@ -70,14 +69,12 @@ impl Call<'_> {
     ) -> Result<Call<'a>, Fault> {
         match kind {
             1 => Ok(Call::Empty {
-                primary: input.read_u32::<BigEndian>()?,
+                primary: u32::from_be_bytes(read_head(input)?),
             }),
             2 => {
-                let vrid = input.read_u8()?;
-                let priority = input.read_u8()?;
-                let interval = input.read_u8()?;
-                let preempt = input.read_u8()?;
-                let addresses = read_bytes(memory, input)?;
+                let [vrid, priority, interval, preempt, high, low] = read_head::<R, 6>(input)?;
+                let size = u16::from_be_bytes([high, low]);
+                let addresses = read_bytes(memory, input, size)?;
                 Ok(Call::Configure {
                     vrid,
                     priority,
@@ -86,33 +83,39 @@ impl Call<'_> {
                     addresses,
                 })
             }
-            3 => Ok(Call::Remove {
-                vrid: input.read_u8()?,
-            }),
-            4 => Ok(Call::Startup {
-                vrid: input.read_u8()?,
-                room: Room::try_from(input.read_u16::<BigEndian>()?)?,
-            }),
-            5 => Ok(Call::Shutdown {
-                vrid: input.read_u8()?,
-                room: Room::try_from(input.read_u16::<BigEndian>()?)?,
-            }),
-            6 => Ok(Call::Clock {
-                vrid: input.read_u8()?,
-                ticks: input.read_u32::<BigEndian>()?,
-                room: Room::try_from(input.read_u16::<BigEndian>()?)?,
-            }),
-            7 => {
-                let size = input.read_u16::<BigEndian>()?;
-                let bytes = read_bytes(memory, input)?;
-                Ok(Call::Packet {
-                    room: Room::try_from(size)?,
-                    bytes,
+            3 => {
+                let [vrid] = read_head::<R, 1>(input)?;
+                Ok(Call::Remove { vrid })
+            }
+            4 => {
+                let [vrid, high, low] = read_head::<R, 3>(input)?;
+                let room = Room::try_from(u16::from_be_bytes([high, low]))?;
+                Ok(Call::Startup { vrid, room })
+            }
+            5 => {
+                let [vrid, high, low] = read_head::<R, 3>(input)?;
+                let room = Room::try_from(u16::from_be_bytes([high, low]))?;
+                Ok(Call::Shutdown { vrid, room })
+            }
+            6 => {
+                let [vrid, a, b, c, d, high, low] = read_head::<R, 7>(input)?;
+                Ok(Call::Clock {
+                    vrid,
+                    ticks: u32::from_be_bytes([a, b, c, d]),
+                    room: Room::try_from(u16::from_be_bytes([high, low]))?,
                 })
             }
-            8 => Ok(Call::Question {
-                vrid: input.read_u8()?,
-            }),
+            7 => {
+                let [room_high, room_low, size_high, size_low] = read_head::<R, 4>(input)?;
+                let size = u16::from_be_bytes([size_high, size_low]);
+                let bytes = read_bytes(memory, input, size)?;
+                let room = Room::try_from(u16::from_be_bytes([room_high, room_low]))?;
+                Ok(Call::Packet { room, bytes })
+            }
+            8 => {
+                let [vrid] = read_head::<R, 1>(input)?;
+                Ok(Call::Question { vrid })
+            }
             _ => Err(Fault::BadRecord),
         }
     }

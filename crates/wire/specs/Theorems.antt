@@ -1,7 +1,8 @@
 -- The theorems of promises that are an equation or a refusal's number; each is proved under the same name in proofs/Theorems.antt.
-use Rattle.std.specs.Prelude.{ℕ, ◌≡◌, Result, Ok}
+use Rattle.std.specs.Prelude.{ℕ, ◌≡◌, Result, IfOk}
+use Rattle.std.specs.Result.{result_map_both}
 use Rattle.wire.specs.declared.refusal.Refusal.{Refusal}
-use Rattle.wire.specs.Refusal.{number_answered, room_answered}
+use Rattle.wire.specs.Refusal.{number_answered}
 
 -- "two outcomes allowed by a promise are equal": answers, memory or rooms that a promise says to be one value
 abbrev pub OneValue : Type 1
@@ -13,8 +14,9 @@ OneRefusal =
     (number : ℕ) (a b : Result Unit Refusal) → ¬ (number ≡ 22) → number_answered a ≡ number → number_answered b ≡ number
     → a ≡ b
 
--- the same of a value or a refusal: answers that tell the same number, need and value are one answer
+-- the same of a value or a refusal, in all that a value tells: answers whose number is not 22 and whose values tell the same
 abbrev pub OneTaken : Type 1
 OneTaken =
-    (T : Type 0) (a b : Result T Refusal) → number_answered a ≡ number_answered b → room_answered a ≡ room_answered b
-    → ((x y : T) → a ≡ Ok x → b ≡ Ok y → x ≡ y) → a ≡ b
+    (T A : Type 0) (told : T → A) (value : A) (number : ℕ) (a b : Result T Refusal) → ¬ (number ≡ 22)
+    → number_answered a ≡ number → number_answered b ≡ number → IfOk a (λ x. told x ≡ value) → IfOk b (λ x. told x ≡ value)
+    → result_map_both told (λ (refusal : Refusal). refusal) a ≡ result_map_both told (λ (refusal : Refusal). refusal) b

@@ -1,6 +1,5 @@
 // A case as it is read.
-use byteorder::{BigEndian, ReadBytesExt};
-use records::reading::{Fault, Room, read_bytes};
+use records::reading::{Fault, Room, read_bytes, read_head};
 use std::io::Read;
 
 // What is handed to judging or writing.
@@ -33,32 +32,47 @@ impl Case<'_> {
     ) -> Result<Case<'a>, Fault> {
         match kind {
             // how many bytes, and those
-            1 => Ok(Case::Judge {
-                packet: read_bytes(memory, input)?,
-            }),
+            1 => {
+                let size = u16::from_be_bytes(read_head(input)?);
+                Ok(Case::Judge {
+                    packet: read_bytes(memory, input, size)?,
+                })
+            }
             // VRID, priority, interval, primary address, room, how many address bytes, and those
             2 => {
-                let vrid = input.read_u8()?;
-                let priority = input.read_u8()?;
-                let interval = input.read_u8()?;
-                let primary = input.read_u32::<BigEndian>()?;
-                let size = input.read_u16::<BigEndian>()?;
-                let addresses = read_bytes(memory, input)?;
+                let [
+                    vrid,
+                    priority,
+                    interval,
+                    a,
+                    b,
+                    c,
+                    d,
+                    room_high,
+                    room_low,
+                    size_high,
+                    size_low,
+                ] = read_head::<R, 11>(input)?;
+                let size = u16::from_be_bytes([size_high, size_low]);
+                let addresses = read_bytes(memory, input, size)?;
                 Ok(Case::Advertisement {
                     vrid,
                     priority,
                     interval,
-                    primary,
-                    room: Room::try_from(size)?,
+                    primary: u32::from_be_bytes([a, b, c, d]),
+                    room: Room::try_from(u16::from_be_bytes([room_high, room_low]))?,
                     addresses,
                 })
             }
             // VRID, address, room
-            3 => Ok(Case::Arp {
-                vrid: input.read_u8()?,
-                address: input.read_u32::<BigEndian>()?,
-                room: Room::try_from(input.read_u16::<BigEndian>()?)?,
-            }),
+            3 => {
+                let [vrid, a, b, c, d, room_high, room_low] = read_head::<R, 7>(input)?;
+                Ok(Case::Arp {
+                    vrid,
+                    address: u32::from_be_bytes([a, b, c, d]),
+                    room: Room::try_from(u16::from_be_bytes([room_high, room_low]))?,
+                })
+            }
             _ => Err(Fault::BadRecord),
         }
     }
