@@ -5,10 +5,11 @@ mod lines; // the line of an election
 mod segment; // the stations of a record, and its deliveries
 
 use crate::lines::{put_letters, put_master};
-use crate::segment::{hand_over, no_stations, read_stations};
+use crate::segment::{hand_over, read_stations};
 use records::answering::answer_all;
 use records::page::Page;
 use records::reading::Fault;
+use script::segment::no_stations;
 use std::io;
 use std::io::Read;
 

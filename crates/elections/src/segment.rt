@@ -27,11 +27,6 @@ impl TryFrom<u8> for Come {
     }
 }
 
-// No station yet, 16 times.
-pub fn no_stations() -> [Station; 16] {
-    [new_station(0, 0, 0, false, 0, &[]).station; 16]
-}
-
 // The station that has virtual router 1, an interval of one second and the virtual address 192.168.1.254, and how far it has come.
 fn station_of(priority: u8, preempt: u8, primary: u32, come: u8) -> Result<(Station, Come), Fault> {
     if priority == 0 {

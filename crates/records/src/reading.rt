@@ -1,5 +1,6 @@
 // Parts of a record as they come from an input.
-ghost use Rattle.std.specs.Prelude.{◌≡◌, ◌≤◌, ◌<◌, IfOk, length, take};
+ghost use Rattle.std.specs.Prelude.{◌≡◌, ◌≤◌, ◌<◌, IfOk, cond, length, take};
+ghost use Rattle.std.specs.Int.{from_be_bytes, w16};
 ghost use Rattle.std.specs.Io.KnownBytes.{Consumes, IsAtEnd};
 
 use std::io;
@@ -24,7 +25,7 @@ impl From<io::Error> for Fault {
 }
 
 // Reads until `part` is full or the input ends, and answers how many bytes came.
-// Kept: a loop, as `read_to_end` wants a heap, and first asks for 512 bytes: an input that keeps messages apart lost the rest of one.
+// Kept: a loop, as `read_to_end` wants a heap, and first asks for 512 bytes: of an input that keeps messages apart the rest would be lost.
 pub fn read_full<R: Read>(input: &mut R, part: &mut [u8]) -> io::Result<usize>
     ensures within { IfOk result (λ n. n ≤ length part.new) }
     ensures bytes { IfOk result (λ n. Consumes (R.remaining input.old) (R.remaining input.new) (take n part.new)) }
@@ -55,10 +56,13 @@ pub struct Room {
     pub ghost within: { size ≤ 1023 },
 }
 
-impl TryFrom<u16> for Room {
+impl TryFrom<[u8; 2]> for Room {
     type Error = Fault;
 
-    fn try_from(size: u16) -> Result<Room, Fault> {
+    fn try_from(bytes: [u8; 2]) -> Result<Room, Fault>
+        ensures { IfOk result (λ room. room.size ≡ from_be_bytes w16 bytes) }
+    {
+        let size = u16::from_be_bytes(bytes);
         if size > 1023 {
             return Err(Fault::BadRecord);
         }
@@ -69,7 +73,9 @@ impl TryFrom<u16> for Room {
 }
 
 // The flag that a byte is, 0 or 1.
-pub fn flag_of(byte: u8) -> Result<bool, Fault> {
+pub fn flag_of(byte: u8) -> Result<bool, Fault>
+    ensures { IfOk result (λ flag. byte ≡ cond flag 1 0) }
+{
     match byte {
         0 => Ok(false),
         1 => Ok(true),
@@ -78,7 +84,9 @@ pub fn flag_of(byte: u8) -> Result<bool, Fault> {
 }
 
 // Reads the fields of a record that have a size, all at once.
-pub fn read_head<R: Read, const N: usize>(input: &mut R) -> Result<[u8; N], Fault> {
+pub fn read_head<R: Read, const N: usize>(input: &mut R) -> Result<[u8; N], Fault>
+    ensures { IfOk result (λ head. Consumes (R.remaining input.old) (R.remaining input.new) head) }
+{
     let mut head = [0; N];
     input.read_exact(&mut head)?;
     Ok(head)
@@ -90,7 +98,8 @@ pub fn read_bytes<'a, R: Read>(
     input: &mut R,
     size: u16,
 ) -> Result<&'a [u8], Fault>
-    ensures { IfOk result (λ bytes. length bytes.now ≤ 65535) }
+    ensures size { IfOk result (λ bytes. length bytes.now ≡ size) }
+    ensures bytes { IfOk result (λ bytes. Consumes (R.remaining input.old) (R.remaining input.new) bytes.now) }
 {
     let bytes = &mut memory[..usize::from(size)];
     input.read_exact(bytes)?;

@@ -59,6 +59,30 @@ fn borne(packet: &[u8]) -> Option<u8> {
     }
 }
 
+// Reads VRID, priority, interval, preempt, how many address bytes, and those.
+fn read_configure<'a, R: Read>(
+    memory: &'a mut [u8; 65535],
+    input: &mut R,
+) -> Result<Call<'a>, Fault> {
+    let [vrid, priority, interval, preempt, high, low] = read_head::<R, 6>(input)?;
+    let addresses = read_bytes(memory, input, u16::from_be_bytes([high, low]))?;
+    Ok(Call::Configure {
+        vrid,
+        priority,
+        interval,
+        preempt: flag_of(preempt)?,
+        addresses,
+    })
+}
+
+// Reads the room, how many bytes the packet has, and those.
+fn read_packet<'a, R: Read>(memory: &'a mut [u8; 65535], input: &mut R) -> Result<Call<'a>, Fault> {
+    let [room_high, room_low, high, low] = read_head::<R, 4>(input)?;
+    let bytes = read_bytes(memory, input, u16::from_be_bytes([high, low]))?;
+    let room = Room::try_from([room_high, room_low])?;
+    Ok(Call::Packet { room, bytes })
+}
+
 impl Call<'_> {
     // Reads the rest of a call of this kind, its fields in their order and its bytes into memory that is lent. A bad one is read
     // to its end all the same.
@@ -71,47 +95,28 @@ impl Call<'_> {
             1 => Ok(Call::Empty {
                 primary: u32::from_be_bytes(read_head(input)?),
             }),
-            2 => {
-                let [vrid, priority, interval, preempt, high, low] = read_head::<R, 6>(input)?;
-                let size = u16::from_be_bytes([high, low]);
-                let addresses = read_bytes(memory, input, size)?;
-                Ok(Call::Configure {
-                    vrid,
-                    priority,
-                    interval,
-                    preempt: flag_of(preempt)?,
-                    addresses,
-                })
-            }
+            2 => read_configure(memory, input),
             3 => {
                 let [vrid] = read_head::<R, 1>(input)?;
                 Ok(Call::Remove { vrid })
             }
             4 => {
                 let [vrid, high, low] = read_head::<R, 3>(input)?;
-                let room = Room::try_from(u16::from_be_bytes([high, low]))?;
+                let room = Room::try_from([high, low])?;
                 Ok(Call::Startup { vrid, room })
             }
             5 => {
                 let [vrid, high, low] = read_head::<R, 3>(input)?;
-                let room = Room::try_from(u16::from_be_bytes([high, low]))?;
+                let room = Room::try_from([high, low])?;
                 Ok(Call::Shutdown { vrid, room })
             }
             6 => {
                 let [vrid, a, b, c, d, high, low] = read_head::<R, 7>(input)?;
-                Ok(Call::Clock {
-                    vrid,
-                    ticks: u32::from_be_bytes([a, b, c, d]),
-                    room: Room::try_from(u16::from_be_bytes([high, low]))?,
-                })
+                let ticks = u32::from_be_bytes([a, b, c, d]);
+                let room = Room::try_from([high, low])?;
+                Ok(Call::Clock { vrid, ticks, room })
             }
-            7 => {
-                let [room_high, room_low, size_high, size_low] = read_head::<R, 4>(input)?;
-                let size = u16::from_be_bytes([size_high, size_low]);
-                let bytes = read_bytes(memory, input, size)?;
-                let room = Room::try_from(u16::from_be_bytes([room_high, room_low]))?;
-                Ok(Call::Packet { room, bytes })
-            }
+            7 => read_packet(memory, input),
             8 => {
                 let [vrid] = read_head::<R, 1>(input)?;
                 Ok(Call::Question { vrid })

@@ -18,5 +18,6 @@ OneRefusal =
 abbrev pub OneTaken : Type 1
 OneTaken =
     (T A : Type 0) (told : T → A) (value : A) (number : ℕ) (a b : Result T Refusal) → ¬ (number ≡ 22)
-    → number_answered a ≡ number → number_answered b ≡ number → IfOk a (λ x. told x ≡ value) → IfOk b (λ x. told x ≡ value)
+    → number_answered a ≡ number → number_answered b ≡ number
+    → IfOk a (λ x. told x ≡ value) → IfOk b (λ x. told x ≡ value)
     → result_map_both told (λ (refusal : Refusal). refusal) a ≡ result_map_both told (λ (refusal : Refusal). refusal) b

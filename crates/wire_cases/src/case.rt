@@ -23,6 +23,35 @@ pub enum Case<'a> {
     },
 }
 
+// Reads VRID, priority, interval, primary address, room, how many address bytes, and those.
+fn read_advertisement<'a, R: Read>(
+    memory: &'a mut [u8; 65535],
+    input: &mut R,
+) -> Result<Case<'a>, Fault> {
+    let [
+        vrid,
+        priority,
+        interval,
+        a,
+        b,
+        c,
+        d,
+        room_high,
+        room_low,
+        high,
+        low,
+    ] = read_head::<R, 11>(input)?;
+    let addresses = read_bytes(memory, input, u16::from_be_bytes([high, low]))?;
+    Ok(Case::Advertisement {
+        vrid,
+        priority,
+        interval,
+        primary: u32::from_be_bytes([a, b, c, d]),
+        room: Room::try_from([room_high, room_low])?,
+        addresses,
+    })
+}
+
 impl Case<'_> {
     // Reads the rest of a case of this kind, its bytes into memory that is lent. A bad one is read to its end all the same.
     pub fn read<'a, R: Read>(
@@ -38,39 +67,14 @@ impl Case<'_> {
                     packet: read_bytes(memory, input, size)?,
                 })
             }
-            // VRID, priority, interval, primary address, room, how many address bytes, and those
-            2 => {
-                let [
-                    vrid,
-                    priority,
-                    interval,
-                    a,
-                    b,
-                    c,
-                    d,
-                    room_high,
-                    room_low,
-                    size_high,
-                    size_low,
-                ] = read_head::<R, 11>(input)?;
-                let size = u16::from_be_bytes([size_high, size_low]);
-                let addresses = read_bytes(memory, input, size)?;
-                Ok(Case::Advertisement {
-                    vrid,
-                    priority,
-                    interval,
-                    primary: u32::from_be_bytes([a, b, c, d]),
-                    room: Room::try_from(u16::from_be_bytes([room_high, room_low]))?,
-                    addresses,
-                })
-            }
+            2 => read_advertisement(memory, input),
             // VRID, address, room
             3 => {
-                let [vrid, a, b, c, d, room_high, room_low] = read_head::<R, 7>(input)?;
+                let [vrid, a, b, c, d, high, low] = read_head::<R, 7>(input)?;
                 Ok(Case::Arp {
                     vrid,
                     address: u32::from_be_bytes([a, b, c, d]),
-                    room: Room::try_from(u16::from_be_bytes([room_high, room_low]))?,
+                    room: Room::try_from([high, low])?,
                 })
             }
             _ => Err(Fault::BadRecord),
